@@ -1,0 +1,24 @@
+//! Instructions and payloads of a method's code units, read as the Dalvik bytecode page says.
+//!
+//! - `opcode` names the opcodes, and `table` has the format and the kind of each.
+//! - `operands` reads the operands of a format, and `instructions` makes an instruction of them.
+//! - `decoding` joins these: `decode_at`.
+//! - `payloads` reads the tables of the switches and the data of arrays; `ident` names their first units.
+//! - `faults` says what can be wrong with a method's code, here and in its control flow.
+#![tactic(auto)]
+
+mod decoding;
+mod faults;
+pub mod ident;
+mod instructions;
+pub mod opcode;
+mod operands;
+mod payloads;
+mod table;
+
+pub use decoding::decode_at;
+pub use faults::CodeFault;
+pub use payloads::{Payload, payload_len, read_payload};
+
+#[cfg(test)]
+mod tests;

@@ -1,0 +1,2 @@
+pub mod ClassData
+pub mod CodeItem

@@ -1,0 +1,4 @@
+pub mod Laws
+pub mod Lists
+pub mod MaskLaws
+pub mod TagLaws

@@ -1,0 +1,5 @@
+pub mod Derived
+pub mod Facts
+pub mod Masks
+pub mod Status
+pub mod Tags

@@ -1,0 +1,14 @@
+use Rattle.std.proofs.Common.{◌≤◌, ◌<◌, ◌-◌, length, vec_len}
+use Rattle.nosleep.specs.Reading.{IsFront, WhereTold, KeepsShelf}
+use Rattle.nosleep.proofs.reading.read_pieces.Given as goal
+
+abbrev pub invariant-loop-ending : goal.invariant-loop-ending
+invariant-loop-ending g l = record {
+  room : 0 < length l.buffer;
+  below : vec_len l.bytes ≤ 33554432;
+  front : WhereTold (g.F.Shelf.content l.initial.shelf l.name) (λ bs. IsFront l.bytes.items bs);
+  keeps : KeepsShelf g.F.Shelf.content g.F.Shelf.faults l.initial.shelf l.shelf;
+}
+
+abbrev pub decreases-loop-ending : goal.decreases-loop-ending
+decreases-loop-ending g l = 33554433 - vec_len l.bytes

@@ -1,0 +1,17 @@
+use Rattle.std.proofs.Common.{[], refl, inl, inr}
+use Rattle.ns_base.specs.declared.answers.Exit.TheVariants as exits
+use Rattle.nosleep.proofs.Pieces.{WroteAll-none}
+use Rattle.nosleep.proofs.top.nosleep.Goals as goal
+
+pub returns-in-Err-clause-answer : goal.returns-in-Err-clause-answer
+returns-in-Err-clause-answer g c = (exits.Memory, [], refl, inl (refl, WroteAll-none _))
+
+pub returns-in-Ok-write_all-clause-answer : goal.returns-in-Ok-write_all-clause-answer
+returns-in-Ok-write_all-clause-answer g c =
+    let wrote = rw c.deref.ensures.value at c.in-Ok-write_all.ensures.ok in
+    (c.in-Ok.answer.exit, c.in-Ok.answer.text.items, c.in-Ok.ensures.answer, inl (refl, wrote))
+
+pub returns-clause-answer : goal.returns-clause-answer
+returns-clause-answer g c =
+    let wrote = rw c.deref.ensures.value at c.in-Err-write_all.ensures.part in
+    (c.in-Ok.answer.exit, c.in-Ok.answer.text.items, c.in-Ok.ensures.answer, inr (refl, c.in-Ok.ensures.judged, wrote, c.in-Err-write_all.ensures.cause))

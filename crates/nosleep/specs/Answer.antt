@@ -1,0 +1,34 @@
+-- The answer to a command line and files: which exit comes, with which text, and why.
+use Rattle.std.specs.Prelude.{◌≡◌, ◌≢◌, ◌⊎◌, ℕ, List, [], Option, Some, None}
+use Rattle.ns_base.specs.declared.answers.Exit.{Exit}
+use Rattle.ns_base.specs.declared.answers.Exit.TheVariants as exits
+use Rattle.ns_base.specs.Outside.{Rose}
+use Rattle.nosleep.specs.Words.{Receiver, form_of}
+use Rattle.nosleep.specs.Texts.{usage_text, cannot_read_text, not_built_text, accept_text}
+use Rattle.nosleep.specs.Reading.{WhereTold}
+use Rattle.nosleep.specs.Writing.{WroteAll, WrotePart}
+use Rattle.nosleep.specs.FirstForm.{IsJudged}
+
+-- the words have a form, of which this holds
+abbrev pub Asks : List (List ℕ) → (List ℕ → List ℕ → Type 0) → Type 0
+Asks words P = (dex class : List ℕ) × (form_of words ≡ Some (Receiver dex class)) × P dex class
+
+-- The words and the files come to this exit and text. Content counts where the shelf tells it; before and
+-- now are the shelf's counts of faults. Want of memory may come always, and no other answer comes.
+abbrev pub IsAnswer : List (List ℕ) → (List ℕ → Option (List ℕ)) → ℕ → ℕ → List ℕ → Exit → Type 0
+IsAnswer words content before now text exits.Usage = (form_of words ≡ None) × (text ≡ usage_text)
+IsAnswer words content before now text exits.ReadFault =
+    Asks words (λ dex class. (text ≡ cannot_read_text dex) × Rose before now)
+IsAnswer words content before now text exits.Bad =
+    Asks words (λ dex class. (text ≡ not_built_text) × WhereTold (content dex) (λ bs. ¬ IsJudged bs class))
+IsAnswer words content before now text exits.Accept =
+    Asks words (λ dex class. (text ≡ accept_text) × WhereTold (content dex) (λ bs. IsJudged bs class))
+IsAnswer words content before now text exits.Memory = text ≡ []
+IsAnswer words content before now text _ = ⊥
+
+-- How the call ends on that exit and text: the text is written and the exit is the result, or the sink's
+-- count rose and a front of the text was written.
+abbrev pub IsEnd : Exit → List ℕ → Exit → Option (List ℕ) → Option (List ℕ) → ℕ → ℕ → Type 0
+IsEnd exit text result before now faults_before faults_now =
+    ((result ≡ exit) × WroteAll before now text)
+    ⊎ ((result ≡ exits.WriteFault) × (exit ≢ exits.Memory) × WrotePart before now text × Rose faults_before faults_now)

@@ -1,0 +1,52 @@
+//! The top call: all that the program does.
+ghost use Rattle.std.specs.Prelude.{◌≡◌, ◌≢◌, ◌⊎◌, ℕ, List, Some, map, string_bytes};
+ghost use Rattle.ns_base.specs.Outside.{Rose};
+ghost use Rattle.nosleep.specs.Words.{form_of, Receiver};
+ghost use Rattle.nosleep.specs.Answer.{IsAnswer, IsEnd};
+ghost use Rattle.nosleep.specs.Reading.{KeepsShelf};
+ghost use Rattle.nosleep.specs.FirstForm.{IsJudged};
+
+use crate::answer::{Answer, find_answer};
+use crate::writing::write_all;
+use ns_base::{Exit, Failed, Shelf, Sink, Watcher};
+use std::alloc::{AllocError, Global};
+
+/// All that the program does: reads the words and files, writes the answer, and says how it ends.
+/// The words do not hold the program's own name. `docs/command.md` has the answers and their order.
+pub fn nosleep<F: Shelf, K: Sink>(
+    alloc: Global,
+    words: &[String],
+    shelf: &mut F,
+    out: &mut K,
+    watchers: &mut Vec<Box<dyn Watcher>>,
+) -> Exit
+    // The words and the told bytes come to one exit and text, and the call ends on these.
+    ensures answer { (exit : Exit) × (text : List ℕ)
+        × IsAnswer (map string_bytes words.now) (F.content shelf.old) (F.faults shelf.old) (F.faults shelf.new) text exit
+        × IsEnd exit text result (K.taken out.old) (K.taken out.new) (K.faults out.old) (K.faults out.new) }
+
+    // No fault is answered that the outside did not have.
+    ensures read { result ≡ Exit.ReadFault → Rose (F.faults shelf.old) (F.faults shelf.new) }
+    ensures write { result ≡ Exit.WriteFault → Rose (K.faults out.old) (K.faults out.new) }
+
+    // After want of memory nothing was written.
+    ensures memory { result ≡ Exit.Memory → out.new ≡ out.old }
+
+    // A told file of the first form is accepted unless the outside failed or memory ran out.
+    ensures complete { (dex class bs : List ℕ) → form_of (map string_bytes words.now) ≡ Some (Receiver dex class)
+        → F.content shelf.old dex ≡ Some bs → IsJudged bs class
+        → ¬ Rose (F.faults shelf.old) (F.faults shelf.new) → ¬ Rose (K.faults out.old) (K.faults out.new)
+        → (result ≡ Exit.Accept) ⊎ (result ≡ Exit.Memory) }
+
+    // What the shelf tells stays, and no watcher is touched.
+    ensures shelf { KeepsShelf F.content F.faults shelf.old shelf.new }
+    ensures watchers { watchers.new.items ≡ watchers.old.items }
+{
+    match find_answer(alloc, words, shelf) {
+        Err(AllocError) => Exit::Memory,
+        Ok(answer) => match write_all(out, &answer.text) {
+            Ok(()) => answer.exit,
+            Err(Failed) => Exit::WriteFault,
+        },
+    }
+}
