@@ -1,0 +1,212 @@
+//! A linked application.
+ghost use Rattle.std.specs.Prelude.{◌≡◌, ◌<◌, length, slice_get, Some};
+ghost use Rattle.app_model.specs.Words.{IsApp, places_of, place_at, operand_at, code_len, ins_at, pc_at, successor_at, handler_at, leaves_at, named_at};
+
+use crate::body::{Body, Place};
+use crate::ins::Ins;
+use crate::rows::{AppRows, ClassRow, FieldRow, MethodRow, Named, Operand, ProtoRow};
+use ns_base::{ClassNo, FieldNo, MethodNo, NameNo, ProtoNo, TypeNo};
+use std::marker::Model;
+
+/// All that the layers above read of the files: rows by number, and each method's code.
+#[derive(Drop)]
+pub struct App {
+    rows: AppRows,
+}
+
+impl Model for App {
+    ghost use Rattle.app_model.specs.Parts.{AppParts};
+    ghost use Rattle.app_model.specs.Words.{IsApp};
+
+    ghost Value = { AppParts };
+
+    ghost view = { λ a. a.rows };
+
+    ghost invariant = { λ a. IsApp a.rows };
+}
+
+impl App {
+    /// Takes no memory.
+    pub fn new(rows: AppRows) -> App
+        requires { IsApp rows }
+        ensures { result ≡ rows }
+    {
+        App { rows }
+    }
+
+    pub fn type_count(&self) -> u32
+        ensures { result ≡ length self.now.types }
+    {
+        self.rows.types.len() as u32
+    }
+
+    pub fn name_count(&self) -> u32
+        ensures { result ≡ length self.now.names }
+    {
+        self.rows.names.len() as u32
+    }
+
+    pub fn proto_count(&self) -> u32
+        ensures { result ≡ length self.now.protos }
+    {
+        self.rows.protos.len() as u32
+    }
+
+    pub fn class_count(&self) -> u32
+        ensures { result ≡ length self.now.classes }
+    {
+        self.rows.classes.len() as u32
+    }
+
+    pub fn method_count(&self) -> u32
+        ensures { result ≡ length self.now.methods }
+    {
+        self.rows.methods.len() as u32
+    }
+
+    pub fn field_count(&self) -> u32
+        ensures { result ≡ length self.now.fields }
+    {
+        self.rows.fields.len() as u32
+    }
+
+    /// The descriptor of a type.
+    pub fn type_name(&self, kind: TypeNo) -> &[u8]
+        requires { kind.0 < length self.now.types }
+        ensures { slice_get self.now.types kind.0 ≡ Some result.now }
+    {
+        &self.rows.types[kind.0 as usize]
+    }
+
+    pub fn name(&self, name: NameNo) -> &[u8]
+        requires { name.0 < length self.now.names }
+        ensures { slice_get self.now.names name.0 ≡ Some result.now }
+    {
+        &self.rows.names[name.0 as usize]
+    }
+
+    pub fn proto(&self, proto: ProtoNo) -> &ProtoRow
+        requires { proto.0 < length self.now.protos }
+        ensures { slice_get self.now.protos proto.0 ≡ Some result.now }
+    {
+        &self.rows.protos[proto.0 as usize]
+    }
+
+    pub fn class(&self, class: ClassNo) -> &ClassRow
+        requires { class.0 < length self.now.classes }
+        ensures { slice_get self.now.classes class.0 ≡ Some result.now }
+    {
+        &self.rows.classes[class.0 as usize]
+    }
+
+    pub fn method(&self, method: MethodNo) -> &MethodRow
+        requires { method.0 < length self.now.methods }
+        ensures { slice_get self.now.methods method.0 ≡ Some result.now }
+    {
+        &self.rows.methods[method.0 as usize]
+    }
+
+    pub fn field(&self, field: FieldNo) -> &FieldRow
+        requires { field.0 < length self.now.fields }
+        ensures { slice_get self.now.fields field.0 ≡ Some result.now }
+    {
+        &self.rows.fields[field.0 as usize]
+    }
+
+    /// The wake-lock fields; `LockNo(i)` is place i.
+    pub fn locks(&self) -> &[FieldNo]
+        ensures { result.now ≡ self.now.locks }
+    {
+        self.rows.locks.as_slice()
+    }
+}
+
+// Instructions. `method` is a row, and `index` below its number of instructions.
+impl App {
+    /// How many instructions a method has.
+    pub fn code_len(&self, method: MethodNo) -> u32
+        requires { method.0 < length self.now.methods }
+        ensures { result ≡ code_len self.now method.0 }
+    {
+        self.body(method).len() as u32
+    }
+
+    /// The pc of an instruction, and the instruction. Its field `kind` is a type number of the
+    /// application; `string`, `field` and `method` stay the indices of the method's file.
+    pub fn ins(&self, method: MethodNo, index: u32) -> (u32, Ins)
+        requires method { method.0 < length self.now.methods }
+        requires index { index < code_len self.now method.0 }
+        ensures pc { pc_at self.now method.0 index ≡ Some result.0 }
+        ensures ins { ins_at self.now method.0 index ≡ Some result.1 }
+    {
+        let place = self.place(method, index);
+        (place.pc, place.ins)
+    }
+
+    /// Successor number `number` of an instruction, or none where there are not so many.
+    pub fn successor(&self, method: MethodNo, index: u32, number: u32) -> Option<u32>
+        requires method { method.0 < length self.now.methods }
+        requires index { index < code_len self.now method.0 }
+        ensures { result ≡ successor_at self.now method.0 index number }
+    {
+        self.place(method, index).successors.get(number as usize)
+    }
+
+    /// Possible handler number `number` of an instruction, or none where there are not so many.
+    pub fn handler(&self, method: MethodNo, index: u32, number: u32) -> Option<u32>
+        requires method { method.0 < length self.now.methods }
+        requires index { index < code_len self.now method.0 }
+        ensures { result ≡ handler_at self.now method.0 index number }
+    {
+        self.place(method, index).handlers.get(number as usize)
+    }
+
+    /// Whether a throw can leave the method at an instruction.
+    pub fn may_leave(&self, method: MethodNo, index: u32) -> bool
+        requires method { method.0 < length self.now.methods }
+        requires index { index < code_len self.now method.0 }
+        ensures { result ≡ leaves_at self.now method.0 index }
+    {
+        self.place(method, index).leaves
+    }
+
+    /// The method that an invoke names; none at every other instruction.
+    pub fn named(&self, method: MethodNo, index: u32) -> Option<Named>
+        requires method { method.0 < length self.now.methods }
+        requires index { index < code_len self.now method.0 }
+        ensures { result ≡ named_at self.now method.0 index }
+    {
+        match self.operand(method, index) {
+            Operand::Invoke(named) => Some(named),
+            Operand::Plain | Operand::Access(_) => None,
+        }
+    }
+
+    #[tactic(auto, unfolding(crate::specs::Words::places_of))]
+    fn body(&self, method: MethodNo) -> &Body
+        requires { method.0 < length self.now.methods }
+        ensures body { slice_get self.now.code method.0 ≡ Some result.now }
+        ensures places { result.now.places ≡ places_of self.now method.0 }
+    {
+        &self.rows.code[method.0 as usize]
+    }
+
+    // Every accessor of an instruction reads it by this call.
+    #[tactic(auto, unfolding(crate::specs::Words::place_at))]
+    fn place(&self, method: MethodNo, index: u32) -> &Place
+        requires method { method.0 < length self.now.methods }
+        requires index { index < code_len self.now method.0 }
+        ensures { place_at self.now method.0 index ≡ Some result.now }
+    {
+        self.body(method).place(index as usize)
+    }
+
+    #[tactic(auto, unfolding(crate::specs::Words::operand_at))]
+    fn operand(&self, method: MethodNo, index: u32) -> Operand
+        requires method { method.0 < length self.now.methods }
+        requires index { index < code_len self.now method.0 }
+        ensures { operand_at self.now method.0 index ≡ Some result }
+    {
+        self.rows.operands[method.0 as usize][index as usize]
+    }
+}
