@@ -1,11 +1,11 @@
 -- The first form of an application: one receiver class with one static wake lock, whose onReceive only returns.
 use Rattle.std.specs.Prelude.{◌≡◌, ◌≢◌, ◌<◌, ◌≤◌, ◌+◌, ℕ, List, length, slice_index, codes, bit_and, None}
 use Rattle.ns_base.specs.Answers.{limit_of}
-use Rattle.ns_base.specs.declared.answers.Counted.TheVariants.{FileBytes, Strings, TypeLists}
+use Rattle.ns_base.specs.declared.answers.Counted.TheVariants.{FileBytes}
 use Rattle.dex_bytes.specs.Header.{front_fault_of}
 use Rattle.dex_bytes.specs.Places.{IsUleb, number_place, number_at}
-use Rattle.dex_tables.specs.Rows.{string_count, type_count, proto_count, class_count, field_count, method_count, string_text, type_name, proto_result, proto_params, field_class, field_type, method_class, method_proto, method_name, class_type, class_parent, no_parent, class_interfaces, class_data, list_size, list_entry}
-use Rattle.dex_tables.specs.Sound.{AreInFile, IsSoundString, IsSoundType, IsSoundProto, IsSoundField, IsSoundMethod, IsSoundClass, AreSoundTables, string_total, sum_below}
+use Rattle.dex_tables.specs.Rows.{string_count, class_count, field_count, method_count, string_text, type_name, proto_result, proto_params, field_class, field_type, method_class, method_proto, method_name, class_type, class_parent, no_parent, class_interfaces, class_data, list_size, list_entry}
+use Rattle.dex_tables.specs.Content.{IdTables, AreTablesOf}
 use Rattle.dex_code.specs.ClassData.{static_count, instance_count, direct_count, virtual_count}
 use Rattle.dex_code.specs.CodeItem.{code_registers, code_ins, code_tries, code_len, code_unit}
 
@@ -27,21 +27,13 @@ pub record IsPlainText (text : List ℕ) : Type 0 where
   pub short : length text < 128
   pub ascii : (k : ℕ) → k < length text → IsAsciiByte (slice_index text k)
 
--- a string that is sound and plain
-pub record IsPlainString (bs : List ℕ) (i : ℕ) : Type 0 where
-  pub sound : IsSoundString bs i
-  pub plain : IsPlainText (string_text bs i)
+-- every string of the file is plain
+abbrev pub ArePlainStrings : List ℕ → Type 0
+ArePlainStrings bs = (i : ℕ) → i < string_count bs → IsPlainText (string_text bs i)
 
--- every table but that of the classes is sound, within the limits, and every string is plain
-pub record ArePlainTables (bs : List ℕ) : Type 0 where
-  pub in_file : AreInFile bs
-  pub strings : (i : ℕ) → i < string_count bs → IsPlainString bs i
-  pub string_limit : string_total bs ≤ limit_of Strings
-  pub types : (t : ℕ) → t < type_count bs → IsSoundType bs t
-  pub protos : (p : ℕ) → p < proto_count bs → IsSoundProto bs p
-  pub list_limit : sum_below (λ p. list_size bs (proto_params bs p)) (proto_count bs) ≤ limit_of TypeLists
-  pub fields : (f : ℕ) → f < field_count bs → IsSoundField bs f
-  pub methods : (m : ℕ) → m < method_count bs → IsSoundMethod bs m
+-- the file has id tables, every row of them sound, within the limits
+abbrev pub HasTables : List ℕ → Type 0
+HasTables bs = (tables : IdTables) × AreTablesOf bs tables
 
 -- the class row: of this name, with a superclass of another name and no interfaces
 pub record IsReceiverRow (bs class : List ℕ) : Type 0 where
@@ -109,21 +101,18 @@ pub record AreReceiverMembers (bs class : List ℕ) (p : ℕ) : Type 0 where
   pub callback : IsCallback bs class (number_at bs p 6) (number_at bs p 7)
   pub body : IsReturnOnly bs (number_at bs p 8)
 
--- the file has one class, a sound row that is a receiver of this name
+-- the file has one class, a receiver of this name
 pub record IsOnlyClass (bs class : List ℕ) : Type 0 where
   pub one_class : class_count bs ≡ 1
-  pub sound : IsSoundClass bs 0
   pub receiver : IsReceiverRow bs class
   pub members : AreReceiverMembers bs class (class_data bs 0)
 
 -- the bytes are of the first form for a class name; the header's two sums are not looked at
 pub record IsFirstForm (bs class : List ℕ) : Type 0 where
   pub header : front_fault_of bs ≡ None
-  pub tables : AreSoundTables bs
-  pub plain : (i : ℕ) → i < string_count bs → IsPlainText (string_text bs i)
-  pub one_class : class_count bs ≡ 1
-  pub receiver : IsReceiverRow bs class
-  pub members : AreReceiverMembers bs class (class_data bs 0)
+  pub tables : HasTables bs
+  pub plain : ArePlainStrings bs
+  pub only : IsOnlyClass bs class
 
 -- the file can be judged: within the limit, and of the first form
 abbrev pub IsJudged : List ℕ → List ℕ → Type 0

@@ -47,7 +47,7 @@ pub fn find_answer<F: Shelf>(
             text: texts::not_built(alloc)?,
         }),
         Reading::Whole(bytes) => {
-            if is_first_form(&bytes, asked.class.as_bytes()) {
+            if is_first_form(alloc, &bytes, asked.class.as_bytes())? {
                 Ok(Answer {
                     exit: Exit::Accept,
                     text: texts::accept(alloc)?,

@@ -1,21 +1,34 @@
-//! The test for the first form of an application (`docs/command.md`). It reads the file's words at their
-//! places, and takes no memory.
-ghost use Rattle.std.specs.Prelude.{◌↔◌, IsTrue};
+//! The test for the first form of an application (`docs/command.md`), over the tables of the file.
+ghost use Rattle.std.specs.Prelude.{◌≡◌, ◌↔◌, ◌≤◌, length, IsTrue, IfOk};
 ghost use Rattle.nosleep.specs.FirstForm.{IsFirstForm};
 
 mod receiver;
-mod rows;
-mod tables;
 mod text;
 
-use dex_bytes::{HEADER_SIZE, front_fault};
+use dex_bytes::{DexFault, HEADER_SIZE, front_fault, header_from};
+use dex_tables::read_tables;
+use std::alloc::{AllocError, Global};
 
 /// Whether the bytes are of the first form for a class name.
-pub fn is_first_form(bytes: &[u8], class: &[u8]) -> bool
-    ensures { IsTrue result ↔ IsFirstForm bytes.now class.now }
+pub fn is_first_form(alloc: Global, bytes: &[u8], class: &[u8]) -> Result<bool, AllocError>
+    requires { length bytes.now ≤ 33554432 }
+    ensures { IfOk result (λ is. IsTrue is ↔ IsFirstForm bytes.now class.now) }
 {
     if bytes.len() < HEADER_SIZE || front_fault(bytes).is_some() {
-        return false;
+        return Ok(false);
     }
-    tables::are_plain(bytes) && receiver::is_only_class(bytes, class)
+    match read_tables(alloc, bytes, &header_from(bytes)) {
+        Ok(tables) => Ok(
+            text::are_strings_plain(bytes, &tables)
+                && receiver::is_only_class(bytes, &tables, class),
+        ),
+        Err(fault) if is_want_of_memory(fault) => Err(AllocError),
+        Err(_) => Ok(false),
+    }
+}
+
+fn is_want_of_memory(fault: DexFault) -> bool
+    ensures { IsTrue result ↔ (fault ≡ DexFault.Memory) }
+{
+    matches!(fault, DexFault::Memory)
 }

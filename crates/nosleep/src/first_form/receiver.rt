@@ -1,19 +1,13 @@
 //! Whether the one class is a receiver with one lock, whose onReceive only returns.
 ghost use Rattle.std.specs.Prelude.{◌≡◌, ◌≢◌, ◌≤◌, ◌<◌, ◌↔◌, ◌+◌, ◌*◌, ℕ, length, IsTrue, MatchOption, slice_index};
 ghost use Rattle.dex_bytes.specs.Places.{IsUleb, number_place, number_at};
-ghost use Rattle.dex_tables.specs.Rows.{class_count, class_data, type_count, proto_count, proto_params};
-ghost use Rattle.dex_tables.specs.Sound.{IsSoundClass, IsSoundList};
-ghost use Rattle.nosleep.specs.FirstForm.{ArePlainTables, AreReceiverParams, HasNumbers, AreNumbers, IsOnlyClass, IsReceiverRow, AreReceiverMembers, IsLockField, IsCallback, IsReceiverProto, IsReturnOnly, HasTwoMembers};
+ghost use Rattle.dex_tables.specs.Content.{AreTablesOf};
+ghost use Rattle.dex_tables.specs.Rows.{class_count, class_data, type_count, type_name, proto_count, proto_params, list_size, list_entry};
+ghost use Rattle.nosleep.specs.FirstForm.{AreReceiverParams, HasNumbers, AreNumbers, IsOnlyClass, IsReceiverRow, AreReceiverMembers, IsLockField, IsCallback, IsReceiverProto, IsReturnOnly, HasTwoMembers};
 
-use super::rows::{
-    CLASSES, FIELDS, METHODS, NO_PARENT, TYPES, class_data_from, class_interfaces_from,
-    class_parent_from, class_type_from, field_class_from, field_type_from, list_entry_from,
-    list_size_from, method_class_from, method_name_from, method_proto_from, proto_params_from,
-    proto_result_from,
-};
-use super::tables::is_class_sound;
 use super::text::{is_named, is_text};
 use dex_bytes::{number_from, u16_from, u32_from};
+use dex_tables::Tables;
 
 /// The numbers of class data with one field and one method.
 const NUMBERS: usize = 9;
@@ -21,35 +15,37 @@ const NUMBERS: usize = 9;
 /// Flags that the callback may not have: static, native, abstract.
 const BANNED: u32 = 0x8 | 0x100 | 0x400;
 
+const WAKE_LOCK: &[u8] = b"Landroid/os/PowerManager$WakeLock;";
+
 /// The code unit of return-void.
 const RETURN_VOID: u16 = 0x000e;
 
 /// Whether there is one class, which is a receiver of this name as the first form wants it.
-pub fn is_only_class(bytes: &[u8], class: &[u8]) -> bool
-    requires { ArePlainTables bytes.now }
+pub fn is_only_class(bytes: &[u8], tables: &Tables, class: &[u8]) -> bool
+    requires { AreTablesOf bytes.now tables.now }
     ensures { IsTrue result ↔ IsOnlyClass bytes.now class.now }
 {
-    u32_from(bytes, CLASSES) == 1
-        && is_class_sound(bytes, 0)
-        && is_receiver_row(bytes, class)
-        && are_members(bytes, class, class_data_from(bytes, 0))
+    tables.classes.len() == 1
+        && is_receiver_row(bytes, tables, class)
+        && are_members(bytes, tables, class, tables.classes[0].members as usize)
 }
 
-fn is_receiver_row(bytes: &[u8], class: &[u8]) -> bool
-    requires tables { ArePlainTables bytes.now }
+fn is_receiver_row(bytes: &[u8], tables: &Tables, class: &[u8]) -> bool
+    requires tables { AreTablesOf bytes.now tables.now }
     requires one { 0 < class_count bytes.now }
-    requires sound { IsSoundClass bytes.now 0 }
     ensures { IsTrue result ↔ IsReceiverRow bytes.now class.now }
 {
-    let parent = class_parent_from(bytes, 0);
-    is_named(bytes, class_type_from(bytes, 0), class)
-        && parent != NO_PARENT
-        && !is_named(bytes, parent, class)
-        && list_size_from(bytes, class_interfaces_from(bytes, 0)) == 0
+    let row = tables.classes[0];
+    let Some(parent) = row.parent else {
+        return false;
+    };
+    is_named(bytes, tables, row.class, class)
+        && !is_named(bytes, tables, parent, class)
+        && row.interfaces.len == 0
 }
 
-fn are_members(bytes: &[u8], class: &[u8], place: usize) -> bool
-    requires { ArePlainTables bytes.now }
+fn are_members(bytes: &[u8], tables: &Tables, class: &[u8], place: usize) -> bool
+    requires { AreTablesOf bytes.now tables.now }
     ensures { IsTrue result ↔ AreReceiverMembers bytes.now class.now place }
 {
     if place == 0 {
@@ -58,8 +54,8 @@ fn are_members(bytes: &[u8], class: &[u8], place: usize) -> bool
     let Some(numbers) = two_members(bytes, place) else {
         return false
     };
-    is_lock_field(bytes, class, numbers[4])
-        && is_callback(bytes, class, numbers[6], numbers[7])
+    is_lock_field(bytes, tables, class, numbers[4])
+        && is_callback(bytes, tables, class, numbers[6], numbers[7])
         && is_return_only(bytes, numbers[8] as usize)
 }
 
@@ -93,57 +89,61 @@ fn numbers_from(bytes: &[u8], at: usize) -> Option<[u32; NUMBERS]>
     Some(numbers)
 }
 
-fn is_lock_field(bytes: &[u8], class: &[u8], f: u32) -> bool
-    requires { ArePlainTables bytes.now }
+fn is_lock_field(bytes: &[u8], tables: &Tables, class: &[u8], f: u32) -> bool
+    requires { AreTablesOf bytes.now tables.now }
     ensures { IsTrue result ↔ IsLockField bytes.now class.now f }
 {
-    f < u32_from(bytes, FIELDS)
-        && is_named(bytes, field_class_from(bytes, f), class)
-        && is_named(
-            bytes,
-            field_type_from(bytes, f),
-            b"Landroid/os/PowerManager$WakeLock;",
-        )
+    if f as usize >= tables.fields.len() {
+        return false;
+    }
+    let field = tables.fields[f as usize];
+    is_named(bytes, tables, u32::from(field.class), class)
+        && is_named(bytes, tables, u32::from(field.kind), WAKE_LOCK)
 }
 
-fn is_callback(bytes: &[u8], class: &[u8], m: u32, flags: u32) -> bool
-    requires { ArePlainTables bytes.now }
+fn is_callback(bytes: &[u8], tables: &Tables, class: &[u8], m: u32, flags: u32) -> bool
+    requires { AreTablesOf bytes.now tables.now }
     ensures { IsTrue result ↔ IsCallback bytes.now class.now m flags }
 {
-    m < u32_from(bytes, METHODS)
-        && is_named(bytes, method_class_from(bytes, m), class)
-        && is_text(bytes, method_name_from(bytes, m), b"onReceive")
-        && is_receiver_proto(bytes, method_proto_from(bytes, m))
+    if m as usize >= tables.methods.len() {
+        return false;
+    }
+    let method = tables.methods[m as usize];
+    is_named(bytes, tables, u32::from(method.class), class)
+        && is_text(bytes, tables, method.name, b"onReceive")
+        && is_receiver_proto(bytes, tables, u32::from(method.proto))
         && flags & BANNED == 0
 }
 
-fn is_receiver_proto(bytes: &[u8], p: u32) -> bool
-    requires tables { ArePlainTables bytes.now }
+fn is_receiver_proto(bytes: &[u8], tables: &Tables, p: u32) -> bool
+    requires tables { AreTablesOf bytes.now tables.now }
     requires row { p < proto_count bytes.now }
     ensures { IsTrue result ↔ IsReceiverProto bytes.now p }
 {
-    is_named(bytes, proto_result_from(bytes, p), b"V")
-        && are_receiver_params(bytes, proto_params_from(bytes, p))
+    let proto = tables.protos[p as usize];
+    is_named(bytes, tables, proto.result, b"V") && are_receiver_params(bytes, tables, p)
 }
 
-#[tactic(auto, unfolding(dex_tables::specs::Rows::list_size))]
-fn are_receiver_params(bytes: &[u8], off: usize) -> bool
-    requires tables { ArePlainTables bytes.now }
-    requires list { IsSoundList bytes.now off }
-    ensures { IsTrue result ↔ AreReceiverParams bytes.now off }
+fn are_receiver_params(bytes: &[u8], tables: &Tables, p: u32) -> bool
+    requires tables { AreTablesOf bytes.now tables.now }
+    requires row { p < proto_count bytes.now }
+    ensures { IsTrue result ↔ AreReceiverParams bytes.now (proto_params bytes.now p) }
 {
-    off != 0
-        && list_size_from(bytes, off) == 2
-        && is_named(
-            bytes,
-            list_entry_from(bytes, off, 0),
-            b"Landroid/content/Context;",
-        )
-        && is_named(
-            bytes,
-            list_entry_from(bytes, off, 1),
-            b"Landroid/content/Intent;",
-        )
+    tables.protos[p as usize].params.len == 2
+        && is_param_named(bytes, tables, p, 0, b"Landroid/content/Context;")
+        && is_param_named(bytes, tables, p, 1, b"Landroid/content/Intent;")
+}
+
+// Whether a parameter of a prototype has a type of this name.
+fn is_param_named(bytes: &[u8], tables: &Tables, p: u32, k: u32, name: &[u8]) -> bool
+    requires tables { AreTablesOf bytes.now tables.now }
+    requires row { p < proto_count bytes.now }
+    requires param { k < list_size bytes.now (proto_params bytes.now p) }
+    ensures { IsTrue result ↔ (type_name bytes.now (list_entry bytes.now (proto_params bytes.now p) k) ≡ name.now) }
+{
+    let params = tables.protos[p as usize].params;
+    let kind = tables.lists[params.at as usize + k as usize];
+    is_named(bytes, tables, u32::from(kind), name)
 }
 
 #[tactic(auto, unfolding(dex_code::specs::CodeItem::code_ins, dex_code::specs::CodeItem::code_registers, dex_code::specs::CodeItem::code_tries, dex_code::specs::CodeItem::code_len, dex_code::specs::CodeItem::code_unit))]

@@ -1,57 +1,68 @@
 //! Strings and names of the first form: text of fewer than 128 bytes, each from 01 to 7f.
-ghost use Rattle.std.specs.Prelude.{◌≡◌, ◌≤◌, ◌<◌, ◌↔◌, ℕ, length, IsTrue, MatchOption, EachIndex, slice_index};
+ghost use Rattle.std.specs.Prelude.{◌≡◌, ◌<◌, ◌↔◌, ℕ, length, IsTrue, EachIndex, slice_index};
+ghost use Rattle.dex_tables.specs.Content.{AreTablesOf};
 ghost use Rattle.dex_tables.specs.Rows.{string_count, type_count, string_text, type_name};
-ghost use Rattle.dex_tables.specs.Sound.{AreInFile};
-ghost use Rattle.nosleep.specs.FirstForm.{IsPlainText, IsPlainString, ArePlainTables};
+ghost use Rattle.nosleep.specs.FirstForm.{IsAsciiByte, IsPlainText, ArePlainStrings};
 
-use super::rows::{string_place, type_string_from};
-use dex_bytes::{mutf8, number_from};
+use dex_bytes::header_from;
+use dex_tables::{Tables, string_bytes};
 
-/// Plain text has fewer units, and so bytes.
-const MOST: u32 = 128;
+/// Plain text is shorter.
+const MOST: usize = 128;
 
-/// The text of a string, where the string is sound and plain.
-pub fn plain_string(bytes: &[u8], i: u32) -> Option<&[u8]>
-    requires tables { AreInFile bytes.now }
-    requires row { i < string_count bytes.now }
-    ensures { MatchOption result (¬ IsPlainString bytes.now i)
-        (λ text. IsPlainString bytes.now i × (text.now ≡ string_text bytes.now i)) }
+/// Whether every string of the file is plain.
+pub fn are_strings_plain(bytes: &[u8], tables: &Tables) -> bool
+    requires { AreTablesOf bytes.now tables.now }
+    ensures { IsTrue result ↔ ArePlainStrings bytes.now }
 {
-    let (units, start) = number_from(bytes, string_place(bytes, i))?;
-    if units >= MOST {
-        return None;
+    for i in 0..header_from(bytes).strings.size {
+        if !is_string_plain(bytes, tables, i) {
+            return false;
+        }
     }
-    let Ok(end) = mutf8(bytes, start, units) else {
-        return None;
-    };
-    let (_, rest) = bytes.split_at(start);
-    let (text, _) = rest.split_at(end - start);
-    if is_ascii(text) { Some(text) } else { None }
+    true
+}
+
+fn is_string_plain(bytes: &[u8], tables: &Tables, i: u32) -> bool
+    requires tables { AreTablesOf bytes.now tables.now }
+    requires row { i < string_count bytes.now }
+    ensures { IsTrue result ↔ IsPlainText (string_text bytes.now i) }
+{
+    match string_bytes(bytes, tables, i) {
+        Some(text) => is_plain(text),
+        None => unreachable!(),
+    }
+}
+
+fn is_plain(text: &[u8]) -> bool
+    ensures { IsTrue result ↔ IsPlainText text.now }
+{
+    text.len() < MOST && is_ascii(text)
 }
 
 fn is_ascii(text: &[u8]) -> bool
-    ensures { IsTrue result ↔ EachIndex text.now (λ k. slice_index text.now k < 128) }
+    ensures { IsTrue result ↔ EachIndex text.now (λ k. IsAsciiByte (slice_index text.now k)) }
 {
-    text.iter().all(|byte| *byte < 0x80)
+    text.iter().all(|byte| 0 < *byte && *byte < 0x80)
 }
 
 /// Whether a type has this name.
 #[tactic(auto, unfolding(dex_tables::specs::Rows::type_name))]
-pub fn is_named(bytes: &[u8], kind: u32, name: &[u8]) -> bool
-    requires tables { ArePlainTables bytes.now }
+pub fn is_named(bytes: &[u8], tables: &Tables, kind: u32, name: &[u8]) -> bool
+    requires tables { AreTablesOf bytes.now tables.now }
     requires row { kind < type_count bytes.now }
     ensures { IsTrue result ↔ (type_name bytes.now kind ≡ name.now) }
 {
-    is_text(bytes, type_string_from(bytes, kind), name)
+    is_text(bytes, tables, tables.types[kind as usize], name)
 }
 
 /// Whether a string has this text.
-pub fn is_text(bytes: &[u8], string: u32, text: &[u8]) -> bool
-    requires tables { ArePlainTables bytes.now }
+pub fn is_text(bytes: &[u8], tables: &Tables, string: u32, text: &[u8]) -> bool
+    requires tables { AreTablesOf bytes.now tables.now }
     requires row { string < string_count bytes.now }
     ensures { IsTrue result ↔ (string_text bytes.now string ≡ text.now) }
 {
-    match plain_string(bytes, string) {
+    match string_bytes(bytes, tables, string) {
         Some(found) => found == text,
         None => unreachable!(),
     }
