@@ -1,4 +1,23 @@
 //! Class data and code items of a DEX file.
 //!
-//! `specs/ClassData.antt` and `specs/CodeItem.antt` say what stands where.
+//! `specs/ClassData.antt`, `specs/CodeItem.antt` and `specs/HandlerPart.antt` say what stands where,
+//! `specs/Content.antt` when members and a code item are what stands there, and `specs/Reading.antt`
+//! in which order they are read.
 #![tactic(auto)]
+
+mod class_data;
+mod code;
+mod code_item;
+mod front;
+mod handlers;
+mod members;
+mod numbers;
+mod stop;
+#[cfg(test)]
+mod tests;
+mod tries;
+
+pub use class_data::{members_law, read_class_members};
+pub use code::{CodeItem, Handler, TryRow};
+pub use code_item::{code_law, read_code};
+pub use members::{ClassMembers, Member};

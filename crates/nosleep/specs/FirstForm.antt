@@ -1,13 +1,12 @@
 -- The first form of an application: one receiver class with one static wake lock, whose onReceive only returns.
-use Rattle.std.specs.Prelude.{◌≡◌, ◌≢◌, ◌<◌, ◌≤◌, ◌+◌, ℕ, List, length, slice_index, codes, bit_and, None}
+use Rattle.std.specs.Prelude.{◌≡◌, ◌≢◌, ◌<◌, ◌≤◌, ℕ, List, [], ◌∷◌, length, slice_index, codes, bit_and, None}
 use Rattle.ns_base.specs.Answers.{limit_of}
 use Rattle.ns_base.specs.declared.answers.Counted.TheVariants.{FileBytes}
 use Rattle.dex_bytes.specs.Header.{front_fault_of}
-use Rattle.dex_bytes.specs.Places.{IsUleb, number_place, number_at}
-use Rattle.dex_tables.specs.Rows.{string_count, class_count, field_count, method_count, string_text, type_name, proto_result, proto_params, field_class, field_type, method_class, method_proto, method_name, class_type, class_parent, no_parent, class_interfaces, class_data, list_size, list_entry}
+use Rattle.dex_tables.specs.Rows.{string_count, class_count, field_count, method_count, string_text, type_name, proto_result, proto_params, field_class, field_type, method_class, method_proto, method_name, class_type, class_parent, no_parent, class_interfaces, list_size, list_entry}
 use Rattle.dex_tables.specs.Content.{IdTables, AreTablesOf}
-use Rattle.dex_code.specs.ClassData.{static_count, instance_count, direct_count, virtual_count}
-use Rattle.dex_code.specs.CodeItem.{code_registers, code_ins, code_tries, code_len, code_unit}
+use Rattle.dex_code.specs.declared.members.Member.{Member}
+use Rattle.dex_code.specs.Content.{MemberLists, AreMembersOf, CodeContent, IsCodeOf}
 
 abbrev pub wake_lock_name : List ℕ
 wake_lock_name = codes "Landroid/os/PowerManager$WakeLock;"
@@ -42,22 +41,6 @@ pub record IsReceiverRow (bs class : List ℕ) : Type 0 where
   pub parent : type_name bs (class_parent bs 0) ≢ class
   pub interfaces : list_size bs (class_interfaces bs 0) ≡ 0
 
--- nine LEB128 numbers stand at a place, one after another
-abbrev pub HasNumbers : List ℕ → ℕ → Type 0
-HasNumbers bs p = (k : ℕ) → k < 9 → IsUleb bs (number_place bs p k)
-
--- and these are they
-abbrev pub AreNumbers : List ℕ → ℕ → List ℕ → Type 0
-AreNumbers bs p numbers = (k : ℕ) → k < 9 → slice_index numbers k ≡ number_at bs p k
-
--- class data at a place with one static field and one virtual method: nine numbers
-pub record HasTwoMembers (bs : List ℕ) (p : ℕ) : Type 0 where
-  pub numbers : HasNumbers bs p
-  pub statics : static_count bs p ≡ 1
-  pub instances : instance_count bs p ≡ 0
-  pub directs : direct_count bs p ≡ 0
-  pub virtuals : virtual_count bs p ≡ 1
-
 -- a field id: a wake lock of the class
 pub record IsLockField (bs class : List ℕ) (f : ℕ) : Type 0 where
   pub inside : f < field_count bs
@@ -83,29 +66,46 @@ pub record IsCallback (bs class : List ℕ) (m flags : ℕ) : Type 0 where
   pub proto : IsReceiverProto bs (method_proto bs m)
   pub flags_free : bit_and flags 1288 ≡ 0
 
--- a code item with three argument registers, no tries and the one instruction return-void
-pub record IsReturnOnly (bs : List ℕ) (p : ℕ) : Type 0 where
-  pub there : p ≢ 0
-  pub front : p + 18 ≤ length bs
-  pub ins : code_ins bs p ≡ 3
-  pub registers : 3 ≤ code_registers bs p
-  pub tries : code_tries bs p ≡ 0
-  pub one_unit : code_len bs p ≡ 1
-  pub returns : code_unit bs p 0 ≡ 14
+-- code with three argument registers, no tries and the one instruction return-void
+pub record IsReturnOnly (code : CodeContent) : Type 0 where
+  pub ins : code.ins ≡ 3
+  pub tries : code.tries ≡ []
+  pub units : code.units ≡ 14 ∷ []
 
--- the class's members, of class data at this place
-pub record AreReceiverMembers (bs class : List ℕ) (p : ℕ) : Type 0 where
+-- at an offset other than 0 stands such code
+pub record HasReturnOnly (bs : List ℕ) (p : ℕ) : Type 0 where
   pub there : p ≢ 0
-  pub members : HasTwoMembers bs p
-  pub lock : IsLockField bs class (number_at bs p 4)
-  pub callback : IsCallback bs class (number_at bs p 6) (number_at bs p 7)
-  pub body : IsReturnOnly bs (number_at bs p 8)
+  pub code : CodeContent
+  pub stands : IsCodeOf bs p code
+  pub returns : IsReturnOnly code
+
+-- one static field and one virtual method
+pub record HasTwoMembers (members : MemberLists) (lock callback : Member) : Type 0 where
+  pub statics : members.statics ≡ lock ∷ []
+  pub instances : members.instances ≡ []
+  pub directs : members.directs ≡ []
+  pub virtuals : members.virtuals ≡ callback ∷ []
+
+-- a field that is the wake lock, and a method that is the callback, whose code only returns
+pub record IsReceiverPair (bs class : List ℕ) (lock callback : Member) : Type 0 where
+  pub is_lock : IsLockField bs class lock.id
+  pub is_callback : IsCallback bs class callback.id callback.flags
+  pub body : HasReturnOnly bs callback.code
+
+-- the members of the first class are such a pair
+pub record HasReceiverMembers (bs class : List ℕ) : Type 0 where
+  pub members : MemberLists
+  pub lock : Member
+  pub callback : Member
+  pub stand : AreMembersOf bs 0 members
+  pub two : HasTwoMembers members lock callback
+  pub pair : IsReceiverPair bs class lock callback
 
 -- the file has one class, a receiver of this name
 pub record IsOnlyClass (bs class : List ℕ) : Type 0 where
   pub one_class : class_count bs ≡ 1
   pub receiver : IsReceiverRow bs class
-  pub members : AreReceiverMembers bs class (class_data bs 0)
+  pub members : HasReceiverMembers bs class
 
 -- the bytes are of the first form for a class name; the header's two sums are not looked at
 pub record IsFirstForm (bs class : List ℕ) : Type 0 where

@@ -1,16 +1,16 @@
 //! Whether the one class is a receiver with one lock, whose onReceive only returns.
-ghost use Rattle.std.specs.Prelude.{◌≡◌, ◌≢◌, ◌≤◌, ◌<◌, ◌↔◌, ◌+◌, ◌*◌, ℕ, length, IsTrue, MatchOption, slice_index};
-ghost use Rattle.dex_bytes.specs.Places.{IsUleb, number_place, number_at};
+ghost use Rattle.std.specs.Prelude.{◌≡◌, ◌≢◌, ◌≤◌, ◌<◌, ◌↔◌, ◌+◌, ◌*◌, ℕ, length, IsTrue, IfOk, MatchOption};
+ghost use Rattle.dex_code.specs.declared.members.Member.{Member};
+ghost use Rattle.dex_code.specs.Content.{AreMembersOf};
 ghost use Rattle.dex_tables.specs.Content.{AreTablesOf};
 ghost use Rattle.dex_tables.specs.Rows.{class_count, class_data, type_count, type_name, proto_count, proto_params, list_size, list_entry};
-ghost use Rattle.nosleep.specs.FirstForm.{AreReceiverParams, HasNumbers, AreNumbers, IsOnlyClass, IsReceiverRow, AreReceiverMembers, IsLockField, IsCallback, IsReceiverProto, IsReturnOnly, HasTwoMembers};
+ghost use Rattle.nosleep.specs.FirstForm.{AreReceiverParams, IsOnlyClass, IsReceiverRow, HasTwoMembers, HasReceiverMembers, IsReceiverPair, HasReturnOnly, IsLockField, IsCallback, IsReceiverProto, IsReturnOnly};
 
+use super::is_want_of_memory;
 use super::text::{is_named, is_text};
-use dex_bytes::{number_from, u16_from, u32_from};
+use dex_code::{ClassMembers, CodeItem, Member, read_class_members, read_code};
 use dex_tables::Tables;
-
-/// The numbers of class data with one field and one method.
-const NUMBERS: usize = 9;
+use std::alloc::{AllocError, Global};
 
 /// Flags that the callback may not have: static, native, abstract.
 const BANNED: u32 = 0x8 | 0x100 | 0x400;
@@ -21,13 +21,20 @@ const WAKE_LOCK: &[u8] = b"Landroid/os/PowerManager$WakeLock;";
 const RETURN_VOID: u16 = 0x000e;
 
 /// Whether there is one class, which is a receiver of this name as the first form wants it.
-pub fn is_only_class(bytes: &[u8], tables: &Tables, class: &[u8]) -> bool
-    requires { AreTablesOf bytes.now tables.now }
-    ensures { IsTrue result ↔ IsOnlyClass bytes.now class.now }
+pub fn is_only_class(
+    alloc: Global,
+    bytes: &[u8],
+    tables: &Tables,
+    class: &[u8],
+) -> Result<bool, AllocError>
+    requires tables { AreTablesOf bytes.now tables.now }
+    requires len { length bytes.now ≤ 33554432 }
+    ensures { IfOk result (λ is. IsTrue is ↔ IsOnlyClass bytes.now class.now) }
 {
-    tables.classes.len() == 1
-        && is_receiver_row(bytes, tables, class)
-        && are_members(bytes, tables, class, tables.classes[0].members as usize)
+    if tables.classes.len() != 1 || !is_receiver_row(bytes, tables, class) {
+        return Ok(false);
+    }
+    has_receiver_members(alloc, bytes, tables, class)
 }
 
 fn is_receiver_row(bytes: &[u8], tables: &Tables, class: &[u8]) -> bool
@@ -44,49 +51,107 @@ fn is_receiver_row(bytes: &[u8], tables: &Tables, class: &[u8]) -> bool
         && row.interfaces.len == 0
 }
 
-fn are_members(bytes: &[u8], tables: &Tables, class: &[u8], place: usize) -> bool
-    requires { AreTablesOf bytes.now tables.now }
-    ensures { IsTrue result ↔ AreReceiverMembers bytes.now class.now place }
+fn has_receiver_members(
+    alloc: Global,
+    bytes: &[u8],
+    tables: &Tables,
+    class: &[u8],
+) -> Result<bool, AllocError>
+    requires tables { AreTablesOf bytes.now tables.now }
+    requires len { length bytes.now ≤ 33554432 }
+    requires one { 0 < class_count bytes.now }
+    ensures { IfOk result (λ is. IsTrue is ↔ HasReceiverMembers bytes.now class.now) }
 {
-    if place == 0 {
+    match read_class_members(alloc, bytes, tables, 0) {
+        Ok(members) => are_receiver_members(alloc, bytes, tables, class, &members),
+        Err(fault) if is_want_of_memory(fault) => Err(AllocError),
+        Err(_) => Ok(false),
+    }
+}
+
+fn are_receiver_members(
+    alloc: Global,
+    bytes: &[u8],
+    tables: &Tables,
+    class: &[u8],
+    members: &ClassMembers,
+) -> Result<bool, AllocError>
+    requires tables { AreTablesOf bytes.now tables.now }
+    requires len { length bytes.now ≤ 33554432 }
+    requires stand { AreMembersOf bytes.now 0 members.now }
+    ensures { IfOk result (λ is. IsTrue is ↔ HasReceiverMembers bytes.now class.now) }
+{
+    match lock_and_callback(members) {
+        Some((lock, callback)) => is_receiver_pair(alloc, bytes, tables, class, lock, callback),
+        None => Ok(false),
+    }
+}
+
+fn is_receiver_pair(
+    alloc: Global,
+    bytes: &[u8],
+    tables: &Tables,
+    class: &[u8],
+    lock: Member,
+    callback: Member,
+) -> Result<bool, AllocError>
+    requires tables { AreTablesOf bytes.now tables.now }
+    requires len { length bytes.now ≤ 33554432 }
+    ensures { IfOk result (λ is. IsTrue is ↔ IsReceiverPair bytes.now class.now lock callback) }
+{
+    if !is_lock_field(bytes, tables, class, lock.id) {
+        return Ok(false);
+    }
+    if !is_callback(bytes, tables, class, callback.id, callback.flags) {
+        return Ok(false);
+    }
+    has_return_only(alloc, bytes, tables, callback.code)
+}
+
+// The one static field and the one virtual method, where there are no other members.
+fn lock_and_callback(members: &ClassMembers) -> Option<(Member, Member)>
+    ensures { MatchOption result ((lock callback : Member) → ¬ HasTwoMembers members.now lock callback)
+        (λ pair. HasTwoMembers members.now pair.0 pair.1) }
+{
+    if !members.instances.is_empty() || !members.directs.is_empty() {
+        return None;
+    }
+    match (members.statics.as_slice(), members.virtuals.as_slice()) {
+        ([lock], [callback]) => Some((*lock, *callback)),
+        _ => None,
+    }
+}
+
+fn has_return_only(
+    alloc: Global,
+    bytes: &[u8],
+    tables: &Tables,
+    off: u32,
+) -> Result<bool, AllocError>
+    requires tables { AreTablesOf bytes.now tables.now }
+    requires len { length bytes.now ≤ 33554432 }
+    ensures { IfOk result (λ is. IsTrue is ↔ HasReturnOnly bytes.now off) }
+{
+    if off == 0 {
+        return Ok(false);
+    }
+    match read_code(alloc, bytes, tables, off) {
+        Ok(code) => Ok(is_return_only(&code)),
+        Err(fault) if is_want_of_memory(fault) => Err(AllocError),
+        Err(_) => Ok(false),
+    }
+}
+
+fn is_return_only(code: &CodeItem) -> bool
+    ensures { IsTrue result ↔ IsReturnOnly code.now }
+{
+    if code.ins != 3 || !code.tries.is_empty() {
         return false;
     }
-    let Some(numbers) = two_members(bytes, place) else {
-        return false
-    };
-    is_lock_field(bytes, tables, class, numbers[4])
-        && is_callback(bytes, tables, class, numbers[6], numbers[7])
-        && is_return_only(bytes, numbers[8] as usize)
-}
-
-// The nine numbers of class data with one static field and one virtual method.
-fn two_members(bytes: &[u8], place: usize) -> Option<[u32; NUMBERS]>
-    ensures { MatchOption result (¬ HasTwoMembers bytes.now place)
-        (λ numbers. HasTwoMembers bytes.now place × AreNumbers bytes.now place numbers) }
-{
-    let numbers = numbers_from(bytes, place)?;
-    if numbers[0] == 1 && numbers[1] == 0 && numbers[2] == 0 && numbers[3] == 1 {
-        Some(numbers)
-    } else {
-        None
+    match code.units.as_slice() {
+        [unit] => *unit == RETURN_VOID,
+        _ => false,
     }
-}
-
-// The nine numbers at a place, where so many stand there.
-fn numbers_from(bytes: &[u8], at: usize) -> Option<[u32; NUMBERS]>
-    ensures { MatchOption result (¬ HasNumbers bytes.now at)
-        (λ numbers. HasNumbers bytes.now at × AreNumbers bytes.now at numbers) }
-{
-    let mut numbers = [0u32; NUMBERS];
-    let mut place = at;
-    for k in 0..NUMBERS {
-        let Some((number, next)) = number_from(bytes, place) else {
-            return None
-        };
-        numbers[k] = number;
-        place = next;
-    }
-    Some(numbers)
 }
 
 fn is_lock_field(bytes: &[u8], tables: &Tables, class: &[u8], f: u32) -> bool
@@ -144,18 +209,4 @@ fn is_param_named(bytes: &[u8], tables: &Tables, p: u32, k: u32, name: &[u8]) ->
     let params = tables.protos[p as usize].params;
     let kind = tables.lists[params.at as usize + k as usize];
     is_named(bytes, tables, u32::from(kind), name)
-}
-
-#[tactic(auto, unfolding(dex_code::specs::CodeItem::code_ins, dex_code::specs::CodeItem::code_registers, dex_code::specs::CodeItem::code_tries, dex_code::specs::CodeItem::code_len, dex_code::specs::CodeItem::code_unit))]
-fn is_return_only(bytes: &[u8], off: usize) -> bool
-    ensures { IsTrue result ↔ IsReturnOnly bytes.now off }
-{
-    if off == 0 || bytes.len() < 18 || off > bytes.len() - 18 {
-        return false;
-    }
-    u16_from(bytes, off + 2) == 3
-        && u16_from(bytes, off) >= 3
-        && u16_from(bytes, off + 6) == 0
-        && u32_from(bytes, off + 12) == 1
-        && u16_from(bytes, off + 16) == RETURN_VOID
 }

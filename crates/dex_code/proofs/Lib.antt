@@ -1,0 +1,11 @@
+pub mod CodeLaw
+pub mod CodeReads
+pub mod Entries
+pub mod HandlerLists
+pub mod Lebs
+pub mod MembersLaw
+pub mod Names
+pub mod Ranges
+pub mod Sorted
+pub mod Steps
+pub mod TryRows
