@@ -1,14 +1,13 @@
 -- What is read of an application, by numbers. Out of range a word answers None.
-use Rattle.std.specs.Prelude.{ℕ, ◌≡◌, ◌≤◌, ◌<◌, ◌^◌, List, [], length, Bool, false, Option, Some, None, slice_get, slice_index_or, option_map}
+use Rattle.std.specs.Prelude.{ℕ, ◌≡◌, ◌≤◌, ◌<◌, ◌^◌, List, [], length, Bool, false, Option, Some, None, slice_get, slice_index_or}
 use Rattle.app_model.specs.declared.ins.Ins.{Ins}
 use Rattle.app_model.specs.declared.body.Place.{Place}
-use Rattle.app_model.specs.declared.rows.MethodRow.{MethodRow}
 use Rattle.app_model.specs.declared.rows.Operand.{Operand}
 use Rattle.app_model.specs.declared.rows.Operand.TheVariants.{Plain, Invoke, Access}
 use Rattle.app_model.specs.declared.rows.Named.{Named}
 use Rattle.app_model.specs.declared.rows.NamedField.{NamedField}
 use Rattle.app_model.specs.Body.{BodyRows}
-use Rattle.app_model.specs.Parts.{AppParts, ClassParts, ProtoParts}
+use Rattle.app_model.specs.Parts.{AppParts}
 
 abbrev pub no_body : BodyRows
 no_body = record { registers = 0; places = [] }

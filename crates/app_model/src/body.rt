@@ -38,7 +38,7 @@ impl Model for Body {
 }
 
 impl Body {
-    /// Takes no memory.
+    /// A body of these places. Takes no memory.
     pub fn new(registers: u16, places: Vec<Place>) -> Body
         requires { IsBody registers places.items }
         ensures { result ≡ record { registers = registers; places = places.items } }
@@ -46,12 +46,14 @@ impl Body {
         Body { registers, places }
     }
 
+    /// How many registers the method has.
     pub fn registers(&self) -> u16
         ensures { result ≡ self.now.registers }
     {
         self.registers
     }
 
+    /// How many instructions there are.
     pub fn len(&self) -> usize
         ensures len { result ≡ length self.now.places }
         ensures sound { IsBody self.now.registers self.now.places }

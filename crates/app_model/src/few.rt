@@ -1,5 +1,5 @@
 //! A short list of numbers.
-ghost use Rattle.std.specs.Prelude.{◌≡◌, List, [], ◌∷◌, ◌++◌, length, slice_get, IfOk};
+ghost use Rattle.std.specs.Prelude.{◌≡◌, List, [], ◌∷◌, ◌++◌, length, slice_get, IfOk, OnErr};
 
 use std::alloc::{AllocError, Global};
 use std::marker::Model;
@@ -54,9 +54,10 @@ impl Few {
         }
     }
 
-    /// Puts a number at the end.
+    /// Puts a number at the end; where memory runs out the list stays as it was.
     pub fn push(&mut self, alloc: Global, number: u32) -> Result<(), AllocError>
         ensures pushed { IfOk result (λ _. self.new ≡ self.old ++ number ∷ []) }
+        ensures kept { OnErr result (self.new ≡ self.old) }
     {
         match &mut self.held {
             Held::Nothing => self.held = Held::One(number),
@@ -69,6 +70,7 @@ impl Few {
         Ok(())
     }
 
+    /// How many numbers there are.
     pub fn len(&self) -> usize
         ensures { result ≡ length self.now }
     {

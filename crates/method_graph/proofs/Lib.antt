@@ -1,0 +1,11 @@
+pub mod Bodies
+pub mod Caught
+pub mod ReadCode
+pub mod Covers
+pub mod Params
+pub mod PlacePuts
+pub mod Puts
+pub mod Ranges
+pub mod Rest
+pub mod Rising
+pub mod Table

@@ -1,0 +1,71 @@
+-- What an instruction names in the id tables, and how many registers arguments take.
+use Rattle.std.specs.Prelude.{ℕ, ◌+◌, ◌==◌, nat_lt, ◌&&◌, ◌||◌, Bool, true, List, length, slice_index, if◌then◌else◌, Option, Some, None}
+use Rattle.app_model.specs.declared.ins.Ins.{Ins}
+use Rattle.app_model.specs.declared.ins.Ins.TheVariants as ins
+use Rattle.app_model.specs.declared.ins.Args.{Args}
+use Rattle.app_model.specs.declared.ins.Args.TheVariants as args
+use Rattle.dalvik_decode.specs.declared.opcode.TheConstants.{INVOKE_STATIC, INVOKE_STATIC_RANGE}
+use Rattle.dex_tables.specs.Rows.{string_count, type_count, field_count, method_count, type_name, proto_params, method_proto, list_size, list_entry}
+use Rattle.dex_tables.specs.Sound.{sum_below}
+use Rattle.method_graph.specs.declared.operands.Named.{Named}
+use Rattle.method_graph.specs.declared.operands.Named.TheVariants.{Nothing, Text, Kind, Field, Method}
+
+abbrev pub named_of : Ins → Named
+named_of (ins.ConstString op to string) = Text string
+named_of (ins.ConstClass to kind) = Kind kind
+named_of (ins.CheckCast object kind) = Kind kind
+named_of (ins.InstanceOf to object kind) = Kind kind
+named_of (ins.NewInstance to kind) = Kind kind
+named_of (ins.NewArray to size kind) = Kind kind
+named_of (ins.FilledNewArray op kind arguments) = Kind kind
+named_of (ins.FieldGet op to object field) = Field field
+named_of (ins.FieldPut op value object field) = Field field
+named_of (ins.StaticGet op to field) = Field field
+named_of (ins.StaticPut op value field) = Field field
+named_of (ins.Invoke op method arguments) = Method method
+named_of _ = Nothing
+
+-- a number that is not below so many
+abbrev pub unless_below : ℕ → ℕ → Option ℕ
+unless_below rows n = if nat_lt n rows then None else Some n
+
+-- the index that is past its table
+abbrev pub past_table : List ℕ → Named → Option ℕ
+past_table bs Nothing = None
+past_table bs (Text i) = unless_below (string_count bs) i
+past_table bs (Kind i) = unless_below (type_count bs) i
+past_table bs (Field i) = unless_below (field_count bs) i
+past_table bs (Method i) = unless_below (method_count bs) i
+
+-- how many registers a value of a type takes: two where its name begins with J or D, none for V, else one
+abbrev pub words_of : List ℕ → ℕ
+words_of name =
+    if length name == 1 && slice_index name 0 == 86 then 0
+    else (if slice_index name 0 == 74 || slice_index name 0 == 68 then 2 else 1)
+
+-- the type of parameter k of a prototype
+abbrev pub param_type : List ℕ → ℕ → ℕ → ℕ
+param_type bs proto k = list_entry bs (proto_params bs proto) k
+
+abbrev pub param_words : List ℕ → ℕ → ℕ → ℕ
+param_words bs proto k = words_of (type_name bs (param_type bs proto k))
+
+-- how many registers the parameters of a prototype take
+unfoldable pub params_words : List ℕ → ℕ → ℕ
+params_words bs proto = sum_below (param_words bs proto) (list_size bs (proto_params bs proto))
+
+-- and those of a method, with its receiver where it has one
+abbrev pub argument_words : List ℕ → Bool → ℕ → ℕ
+argument_words bs static method = (if static then 0 else 1) + params_words bs (method_proto bs method)
+
+abbrev pub is_static_call : ℕ → Bool
+is_static_call op = op == INVOKE_STATIC || op == INVOKE_STATIC_RANGE
+
+abbrev pub args_len : Args → ℕ
+args_len (args.List count registers) = count
+args_len (args.Range first count) = count
+
+-- whether a call names as many registers as the arguments of its method take
+abbrev pub has_its_args : List ℕ → Ins → Bool
+has_its_args bs (ins.Invoke op method arguments) = args_len arguments == argument_words bs (is_static_call op) method
+has_its_args bs _ = true

@@ -1,0 +1,162 @@
+//! What an instruction names in the id tables.
+ghost use Rattle.std.specs.Prelude.{◌≡◌, ◌<◌, ◌≤◌, ◌*◌, ◌^◌, None};
+ghost use Rattle.dex_tables.specs.Content.{AreTablesOf};
+ghost use Rattle.dex_tables.specs.Rows.{list_size, list_entry, method_count, method_proto, proto_count, proto_params, type_count, type_name};
+ghost use Rattle.method_graph.specs.Operands.{args_len, argument_words, has_its_args, is_static_call, named_of, param_type, param_words, params_words, past_table, unless_below, words_of};
+
+use app_model::{Args, Ins};
+use dalvik_decode::opcode;
+use dex_tables::{Tables, string_bytes};
+
+/// A row of a table that an instruction names.
+#[derive(Clone, Copy)]
+pub enum Named {
+    Nothing,
+    Text(u32),
+    Kind(u32),
+    Field(u32),
+    Method(u32),
+}
+
+fn named_by(ins: Ins) -> Named
+    ensures { result ≡ named_of ins }
+{
+    match ins {
+        Ins::ConstString { string, .. } => Named::Text(string),
+        Ins::ConstClass { kind, .. }
+        | Ins::CheckCast { kind, .. }
+        | Ins::InstanceOf { kind, .. }
+        | Ins::NewInstance { kind, .. }
+        | Ins::NewArray { kind, .. }
+        | Ins::FilledNewArray { kind, .. } => Named::Kind(kind),
+        Ins::FieldGet { field, .. }
+        | Ins::FieldPut { field, .. }
+        | Ins::StaticGet { field, .. }
+        | Ins::StaticPut { field, .. } => Named::Field(field),
+        Ins::Invoke { method, .. } => Named::Method(method),
+        _ => Named::Nothing,
+    }
+}
+
+fn unless_row(rows: usize, row: u32) -> Option<u32>
+    ensures { result ≡ unless_below rows row }
+{
+    if (row as usize) < rows {
+        None
+    } else {
+        Some(row)
+    }
+}
+
+fn past_rows(bytes: &[u8], tables: &Tables, named: Named) -> Option<u32>
+    requires tables { AreTablesOf bytes.now tables.now }
+    ensures { result ≡ past_table bytes.now named }
+{
+    let _ = bytes;
+    match named {
+        Named::Nothing => None,
+        Named::Text(row) => unless_row(tables.strings.len(), row),
+        Named::Kind(row) => unless_row(tables.types.len(), row),
+        Named::Field(row) => unless_row(tables.fields.len(), row),
+        Named::Method(row) => unless_row(tables.methods.len(), row),
+    }
+}
+
+/// The index that the instruction names past its table.
+pub fn past_operand(bytes: &[u8], tables: &Tables, ins: Ins) -> Option<u32>
+    requires tables { AreTablesOf bytes.now tables.now }
+    ensures { result ≡ past_table bytes.now (named_of ins) }
+{
+    past_rows(bytes, tables, named_by(ins))
+}
+
+fn words_from(name: &[u8]) -> u64
+    ensures words { result ≡ words_of name.now }
+    ensures few { result ≤ 2 }
+{
+    match name {
+        [b'V'] => 0,
+        [b'J' | b'D', ..] => 2,
+        _ => 1,
+    }
+}
+
+/// The name of a type.
+#[tactic(auto, unfolding(dex_tables::specs::Rows::type_name))]
+pub fn name_of<'a>(bytes: &'a [u8], tables: &Tables, kind: u32) -> &'a [u8]
+    requires tables { AreTablesOf bytes.now tables.now }
+    requires row { kind < type_count bytes.now }
+    ensures { result.now ≡ type_name bytes.now kind }
+{
+    match string_bytes(bytes, tables, tables.types[kind as usize]) {
+        Some(name) => name,
+        None => unreachable!(),
+    }
+}
+
+/// The type of a parameter.
+fn param_from(bytes: &[u8], tables: &Tables, proto: u32, k: u32) -> u32
+    requires tables { AreTablesOf bytes.now tables.now }
+    requires row { proto < proto_count bytes.now }
+    requires param { k < list_size bytes.now (proto_params bytes.now proto) }
+    ensures { result ≡ param_type bytes.now proto k }
+{
+    let _ = bytes;
+    let params = tables.protos[proto as usize].params;
+    tables.lists[params.at as usize + k as usize] as u32
+}
+
+/// The registers that the parameters of a prototype take.
+#[tactic(auto, using(crate::proofs::Params::param_is_type), unfolding(crate::specs::Operands::params_words))]
+fn params_from(bytes: &[u8], tables: &Tables, proto: u32) -> u64
+    requires tables { AreTablesOf bytes.now tables.now }
+    requires row { proto < proto_count bytes.now }
+    ensures words { result ≡ params_words bytes.now proto }
+    ensures bound { result < 2 ^ 34 }
+{
+    let len = tables.protos[proto as usize].params.len;
+    let mut words = 0;
+    for k in 0..len {
+        words += words_from(name_of(bytes, tables, param_from(bytes, tables, proto, k)));
+    }
+    words
+}
+
+/// The registers that the arguments of a method take.
+pub fn arguments_from(bytes: &[u8], tables: &Tables, is_static: bool, method: u32) -> u64
+    requires tables { AreTablesOf bytes.now tables.now }
+    requires row { method < method_count bytes.now }
+    ensures { result ≡ argument_words bytes.now is_static method }
+{
+    let params = params_from(bytes, tables, tables.methods[method as usize].proto as u32);
+    if is_static { params } else { params + 1 }
+}
+
+fn len_of(args: Args) -> u64
+    ensures { result ≡ args_len args }
+{
+    match args {
+        Args::List { count, .. } => count as u64,
+        Args::Range { count, .. } => count as u64,
+    }
+}
+
+fn calls_static(op: u8) -> bool
+    ensures { result ≡ is_static_call op }
+{
+    op == opcode::INVOKE_STATIC || op == opcode::INVOKE_STATIC_RANGE
+}
+
+/// Whether a call names as many registers as its arguments take.
+pub fn fits_args(bytes: &[u8], tables: &Tables, ins: Ins) -> bool
+    requires tables { AreTablesOf bytes.now tables.now }
+    requires operand { past_table bytes.now (named_of ins) ≡ None }
+    ensures { result ≡ has_its_args bytes.now ins }
+{
+    match ins {
+        Ins::Invoke { op, method, args } => {
+            len_of(args) == arguments_from(bytes, tables, calls_static(op), method)
+        }
+        _ => true,
+    }
+}
