@@ -3,23 +3,9 @@
 # sha1sum of the same file, in one run. Needs rt, python3 and sha1sum. Prints seconds and the ratio.
 set -eu
 
-top=$(cd "$(dirname "$0")/.." && pwd)
-work=$(mktemp -d)
-trap 'rm -rf "$work"' EXIT
+. "$(dirname "$0")/workspace.sh"
 
-# a repository of its own with the program and the crates that it needs
-mkdir -p "$work/crates/read_tables/src"
-cp "$top/bench/read_tables/main.rt.in" "$work/crates/read_tables/src/main.rt"
-for crate in ns_base dex_bytes dex_tables; do
-    cp -R "$top/crates/$crate" "$work/crates/$crate"
-done
-cat > "$work/crates.txt" <<'CRATES'
-ns_base:
-dex_bytes: ns_base byteorder sha1
-dex_tables: dex_bytes ns_base
-read_tables: dex_tables dex_bytes
-CRATES
-cp "$top/HANDLES" "$work/HANDLES"
+make_workspace read_tables "dex_tables dex_bytes" ns_base dex_bytes dex_tables
 
 # the tables in their order, then the data of the strings, then the type lists
 python3 - "$work/big.dex" <<'PYTHON'
@@ -58,38 +44,24 @@ with open(sys.argv[1], 'wb') as file:
     file.write(front + rows + data + lists)
 PYTHON
 
-(cd "$work/crates/read_tables" && rt run -- "$work/big.dex") > "$work/build.txt" 2>&1 || { cat "$work/build.txt"; exit 1; }
+build_on "$work/big.dex"
 
-python3 - "$work/big.dex" "$work/crates/read_tables/out/read_tables" <<'PYTHON'
-import os, statistics, subprocess, sys, time
+measure "$work/big.dex" <<'PYTHON'
+import os, sys
+from turns import Turns, spent_by_sha1sum, words_of
 
 path, program = sys.argv[1:]
 
 
-def spent(work):
-    start = time.perf_counter()
-    work()
-    return time.perf_counter() - start
+def turn():
+    tables, strings = words_of(program, path)
+    assert int(strings) == 1_000_000, strings
+    return {'read_tables': int(tables) / 1e6, 'sha1sum': spent_by_sha1sum(path)}
 
 
-# the passes take turns, so that other work on the machine meets all of them alike
-turns = []
-for _ in range(25):
-    run = subprocess.run([program, path], check=True, capture_output=True, text=True)
-    tables, strings = run.stdout.split()
-    assert int(strings) == 1_000_000, run.stdout
-    turns.append({
-        'read_tables': int(tables) / 1e6,
-        'sha1sum': spent(lambda: subprocess.run(['sha1sum', path], check=True, stdout=subprocess.DEVNULL)),
-    })
-
-
-def middle(value):
-    return statistics.median(value(turn) for turn in turns)
-
-
+turns = Turns(turn)
 print(f'file: {os.path.getsize(path)} bytes')
-for name in turns[0]:
-    print(f'{name}: {middle(lambda turn: turn[name]):.3f} s')
-print(f'time of read_tables to sha1sum: {middle(lambda turn: turn["read_tables"] / turn["sha1sum"]):.2f}')
+for name in turns.names():
+    print(f'{name}: {turns.middle(lambda turn: turn[name]):.3f} s')
+print(f'time of read_tables to sha1sum: {turns.middle(lambda turn: turn["read_tables"] / turn["sha1sum"]):.2f}')
 PYTHON
