@@ -3,3 +3,8 @@ pub mod Few
 pub mod Registers
 pub mod Parts
 pub mod Words
+pub mod Names
+pub mod LockUse
+pub mod Slots
+pub mod Subtypes
+pub mod Components

@@ -3,19 +3,29 @@
 //! - `ins` has the instructions.
 //! - `few` is a short list of numbers that mostly takes no heap.
 //! - `body` has the places of a method's code: each instruction with where control can go from it.
+//! - `opcode` names the opcodes.
+//! - `rows` and `app` are the linked application, read through accessors.
+//! - `lock_use` and `slots` tell calls and fields of wake locks apart from others.
+//! - `component` has the components and their lifecycles.
+//! - `tag` is what is known of a register's value.
 #![tactic(auto)]
 
 mod app;
 mod body;
+mod component;
 mod few;
 mod ins;
+mod lock_use;
+pub mod opcode;
 mod rows;
 mod tag;
 
 pub use app::App;
 pub use body::{Body, Place};
+pub use component::{ComponentRow, Edge, Kind};
 pub use few::Few;
 pub use ins::{Args, Ins};
+pub use lock_use::LockUse;
 pub use rows::{AppRows, ClassRow, FieldRow, MethodRow, Named, NamedField, Operand, ProtoRow};
 pub use tag::Tag;
 

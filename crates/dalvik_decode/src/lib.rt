@@ -1,6 +1,6 @@
 //! Instructions and payloads of a method's code units, read as the Dalvik bytecode page says.
 //!
-//! - `opcode` names the opcodes, and `table` has the format and the kind of each.
+//! - `table` has the format and the kind of each opcode.
 //! - `operands` reads the operands of a format, and `instructions` makes an instruction of them.
 //! - `decoding` joins these: `decode_at`.
 //! - `payloads` reads the tables of the switches and the data of arrays; `ident` names their first units.
@@ -11,7 +11,7 @@ mod decoding;
 mod faults;
 pub mod ident;
 mod instructions;
-pub mod opcode;
+
 mod operands;
 mod payloads;
 mod table;

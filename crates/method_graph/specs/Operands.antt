@@ -4,7 +4,7 @@ use Rattle.app_model.specs.declared.ins.Ins.{Ins}
 use Rattle.app_model.specs.declared.ins.Ins.TheVariants as ins
 use Rattle.app_model.specs.declared.ins.Args.{Args}
 use Rattle.app_model.specs.declared.ins.Args.TheVariants as args
-use Rattle.dalvik_decode.specs.declared.opcode.TheConstants.{INVOKE_STATIC, INVOKE_STATIC_RANGE}
+use Rattle.app_model.specs.declared.opcode.TheConstants.{INVOKE_STATIC, INVOKE_STATIC_RANGE}
 use Rattle.dex_tables.specs.Rows.{string_count, type_count, field_count, method_count, type_name, proto_params, method_proto, list_size, list_entry}
 use Rattle.dex_tables.specs.Sound.{sum_below}
 use Rattle.method_graph.specs.declared.operands.Named.{Named}

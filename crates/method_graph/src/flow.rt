@@ -8,7 +8,8 @@ ghost use Rattle.dalvik_decode.specs.declared.faults.CodeFault.TheVariants.{Memo
 
 use crate::sweep::{Found, Sweep};
 use app_model::{Few, Ins};
-use dalvik_decode::{CodeFault, Payload, ident, opcode, read_payload};
+use app_model::opcode;
+use dalvik_decode::{CodeFault, Payload, ident, read_payload};
 use std::alloc::Global;
 
 /// How control leaves an instruction.

@@ -5,7 +5,7 @@ ghost use Rattle.dex_tables.specs.Rows.{list_size, list_entry, method_count, met
 ghost use Rattle.method_graph.specs.Operands.{args_len, argument_words, has_its_args, is_static_call, named_of, param_type, param_words, params_words, past_table, unless_below, words_of};
 
 use app_model::{Args, Ins};
-use dalvik_decode::opcode;
+use app_model::opcode;
 use dex_tables::{Tables, string_bytes};
 
 /// A row of a table that an instruction names.

@@ -5,7 +5,7 @@ ghost use Rattle.app_model.specs.Registers.{args_of, is_between, is_wide_binary,
 ghost use Rattle.method_graph.specs.Registers.{first_past};
 
 use app_model::{Args, Ins};
-use dalvik_decode::opcode;
+use app_model::opcode;
 
 /// Whether the opcode is one of a run.
 fn is_in(first: u8, last: u8, op: u8) -> bool
