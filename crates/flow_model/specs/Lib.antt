@@ -3,3 +3,9 @@ pub mod Facts
 pub mod Masks
 pub mod Status
 pub mod Tags
+pub mod Acts
+pub mod Changes
+pub mod Passes
+pub mod Subject
+pub mod Rules
+pub mod Policy

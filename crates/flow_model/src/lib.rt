@@ -1,10 +1,12 @@
 //! What the analysis follows: statuses of a lock field, tags of registers, facts, and what rules derive.
 #![tactic(auto)]
 
+mod act;
 mod masks;
 mod status;
 mod tags;
 
+pub use act::{Act, Gives};
 pub use masks::{
     Branches, Outcome, after_acquire, after_is_held, after_mode, after_null, after_release,
     after_store, held_test, null_test,

@@ -1,0 +1,83 @@
+-- Violations of the exit policy: an exit of a component is reached while a lock that it answers for is held.
+use Rattle.std.specs.Prelude.{ℕ, ◌≡◌, ◌<◌, ◌⊎◌, Bool, true, false, List, ◌∷◌, Option, Some, AllPairs, Contains, ◌↔◌}
+use Rattle.app_model.specs.declared.component.Edge.{Edge}
+use Rattle.app_model.specs.declared.tag.Tag.{Tag}
+use Rattle.app_model.specs.declared.lock_use.LockUse.TheVariants.{Acquire}
+use Rattle.app_model.specs.Components.{edge_at, callback_at, exits_at}
+use Rattle.flow_model.specs.declared.act.Act.{Act}
+use Rattle.flow_model.specs.declared.act.Act.TheVariants.{Call}
+use Rattle.flow_model.specs.Acts.{act_at, receiver_of}
+use Rattle.flow_model.specs.Changes.{tag_in}
+use Rattle.flow_model.specs.Facts.{Fact, View}
+use Rattle.flow_model.specs.Masks.{in_mask}
+use Rattle.flow_model.specs.Derived.{Set, HasAll, Derived}
+use Rattle.flow_model.specs.Passes.{is_field}
+use Rattle.flow_model.specs.Rules.{Rules, Carries}
+use Rattle.flow_model.specs.Subject.{SubjectParts}
+
+-- the statuses C1, C2, CT, U1 and L
+abbrev pub held_statuses : ℕ
+held_statuses = 0xdc
+
+abbrev pub is_held : ℕ → Bool
+is_held s = in_mask held_statuses s
+
+-- an acquire of what lock field l holds
+abbrev pub acquires : ℕ → Option Act → List Tag → Bool
+acquires l (Some (Call Acquire arguments gives)) row = is_field l (tag_in row (receiver_of arguments))
+acquires l act row = false
+
+-- component c answers for lock field l: a callback of it acquires what the field holds
+pub record AnswersFor (x : SubjectParts) (c l : ℕ) : Type 0 where
+  pub callback : ℕ
+  pub method : ℕ
+  pub index : ℕ
+  pub entry : callback_at x.list c callback ≡ Some method
+  pub acquired : acquires l (act_at x.app method index) (x.tags method index) ≡ true
+
+-- callback k of component c, an exit, can end at the held status s, where facts hold by P
+pub record IsViolation (x : SubjectParts) (l : ℕ) (P : List Fact → Type 0) (c k s : ℕ) : Type 0 where
+  pub state : ℕ
+  pub before : ℕ
+  pub number : ℕ
+  pub edge : Edge
+  pub needs : List Fact
+  pub there : edge_at x.list c number ≡ Some edge
+  pub from : edge.from ≡ state
+  pub callback : edge.callback ≡ k
+  pub carries : Carries x l c edge before s needs
+  pub holds : P (View c state before ∷ needs)
+  pub exit : in_mask (exits_at x.list c) k ≡ true
+  pub held : is_held s ≡ true
+  pub answers : AnswersFor x c l
+
+-- no fact is given
+abbrev pub none_given : Set
+none_given f = false
+
+-- the least solution of the rules has the violation
+abbrev pub IsDerivableViolation : SubjectParts → (l c k s : ℕ) → Type 0
+IsDerivableViolation x l c k s = IsViolation x l (Derived (Rules x l) none_given) c k s
+
+abbrev pub MeetsPolicy : SubjectParts → ℕ → Set → Type 0
+MeetsPolicy x l set = (c k s : ℕ) → ¬ IsViolation x l (HasAll set) c k s
+
+-- a violation by its component, callback, lock field and status
+pub record Violation : Type 0 where
+  pub component : ℕ
+  pub callback : ℕ
+  pub lock : ℕ
+  pub status : ℕ
+
+-- the order of reports
+abbrev pub ComesBefore : Violation → Violation → Type 0
+ComesBefore v w =
+    (v.component < w.component)
+    ⊎ ((v.component ≡ w.component) × ((v.callback < w.callback)
+    ⊎ ((v.callback ≡ w.callback) × ((v.lock < w.lock)
+    ⊎ ((v.lock ≡ w.lock) × (v.status < w.status))))))
+
+-- these are the violations that the rules derive, each once and in order
+pub record AreViolations (x : SubjectParts) (violations : List Violation) : Type 0 where
+  pub ordered : AllPairs ComesBefore violations
+  pub exact : (v : Violation) → Contains violations v ↔ IsDerivableViolation x v.lock v.component v.callback v.status
