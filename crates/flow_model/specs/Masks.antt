@@ -1,5 +1,5 @@
 -- Sets of statuses as masks: status s is in the mask whose bit s is set. There are eight statuses.
-use Rattle.std.specs.Prelude.{◌≡◌, ◌<◌, ℕ, Bool, true, nat_lt, ◌&&◌, ◌==◌}
+use Rattle.std.specs.Prelude.{◌≡◌, ◌<◌, ℕ, zero, suc, Bool, true, false, nat_lt, ◌&&◌, ◌||◌, ◌==◌}
 use Rattle.std.specs.Int.{bit_at}
 
 abbrev pub in_mask : ℕ → ℕ → Bool
@@ -22,3 +22,8 @@ pub record IsCut (mask kept cut : ℕ) : Type 0 where
 pub record IsImageBelow (column : ℕ → ℕ) (mask n image : ℕ) : Type 0 where
   pub there : (s t : ℕ) → s < n → IsIn mask s → IsIn (column s) t → IsIn image t
   pub only : (t : ℕ) → IsIn image t → (s : ℕ) × (s < n) × IsIn mask s × IsIn (column s) t
+
+-- some number below n passes the test
+abbrev pub any_below : (ℕ → Bool) → ℕ → Bool
+any_below f zero = false
+any_below f (suc n) = f n || any_below f n

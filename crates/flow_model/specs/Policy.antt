@@ -1,5 +1,5 @@
 -- Violations of the exit policy: an exit of a component is reached while a lock that it answers for is held.
-use Rattle.std.specs.Prelude.{ℕ, ◌≡◌, ◌<◌, ◌⊎◌, Bool, true, false, List, ◌∷◌, Option, Some, AllPairs, Contains, ◌↔◌}
+use Rattle.std.specs.Prelude.{ℕ, ◌≡◌, ◌<◌, ◌⊎◌, Bool, true, false, List, ◌∷◌, Option, Some, length, AllPairs, Contains, ◌↔◌}
 use Rattle.app_model.specs.declared.component.Edge.{Edge}
 use Rattle.app_model.specs.declared.tag.Tag.{Tag}
 use Rattle.app_model.specs.declared.lock_use.LockUse.TheVariants.{Acquire}
@@ -42,6 +42,7 @@ pub record IsViolation (x : SubjectParts) (l : ℕ) (P : List Fact → Type 0) (
   pub number : ℕ
   pub edge : Edge
   pub needs : List Fact
+  pub lock : l < length x.app.locks
   pub there : edge_at x.list c number ≡ Some edge
   pub from : edge.from ≡ state
   pub callback : edge.callback ≡ k

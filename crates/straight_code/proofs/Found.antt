@@ -1,0 +1,112 @@
+-- What lies on the path is derived, and so the statuses at the end of a callback that began at a reached status are
+-- those of the violations.
+use Rattle.std.proofs.Common.{◌≡◌, ◌⊎◌, ◌↔◌, ℕ, zero, suc, ◌<◌, ◌≤◌, ◌+◌, ◌&&◌, ◌==◌, nat_lt, Bool, true, false, List, ◌∷◌, [], length, Option, Some, None, refl, sym, ap, ◌∙◌, subst, inl, inr, ⊎_elim, true≢false, arith, add-one}
+use Rattle.std.proofs.lemmas.Bool.{cases_Bool}
+use Rattle.app_model.specs.declared.component.Edge.{Edge}
+use Rattle.app_model.specs.Parts.{AppParts}
+use Rattle.app_model.specs.Words.{successor_at}
+use Rattle.app_model.specs.Components.{edge_at, callback_at, exits_at, creating}
+use Rattle.flow_model.specs.declared.act.Act.TheVariants.{ReturnVoid}
+use Rattle.flow_model.specs.Acts.{act_at}
+use Rattle.flow_model.specs.Facts.{Fact, View, At, Ret, Exc}
+use Rattle.flow_model.specs.Masks.{in_mask, any_below}
+use Rattle.flow_model.specs.Derived.{HasAll, Derived, all_done, by_rule}
+use Rattle.flow_model.specs.Policy.{acquires, is_held, none_given, AnswersFor, IsViolation, IsDerivableViolation}
+use Rattle.flow_model.specs.Subject.{SubjectParts, passes_by, own_operation}
+use Rattle.flow_model.specs.Rules.{I1, I1_return, I2, V3, V1, V4, Carries, by_method, Rules, entered}
+use Rattle.flow_model.proofs.Laws.{in_closed, one_more}
+use Rattle.straight_code.specs.Body.{IsPlainBody}
+use Rattle.straight_code.specs.Path.{row_before, on_path, path_subject}
+use Rattle.straight_code.specs.Reached.{IsReached, at_start, by_step}
+use Rattle.straight_code.specs.Verdict.{AreHeld}
+use Rattle.straight_code.proofs.Bools.{both, same_number, some_below, below_some}
+use Rattle.straight_code.proofs.Plain.{returns_last, acquired_before}
+use Rattle.straight_code.proofs.Closed.{leads, path_facts, comes_by, closed, view_first, only_callback, entered_same, ended}
+
+module _ (app : AppParts) (plain : IsPlainBody app) where
+  abbrev x : SubjectParts
+  x = path_subject app
+
+  abbrev D : List Fact → Type 0
+  D fs = Derived (Rules x 0) none_given fs
+
+  one_on : (e i s t : ℕ) → i < plain.last → in_mask (passes_by 0 (act_at app 0 i) (row_before app 0 i) 0 s) t ≡ true → D (At 0 e i s ∷ []) → D (At 0 e (suc i) t ∷ [])
+  one_on e i s t l m d = by_own (cases_Bool (own_operation x 0 0 i))
+    where
+    next : successor_at app 0 i 0 ≡ Some (suc i)
+    next = subst (λ n. successor_at app 0 i 0 ≡ Some n) (add-one i) (plain.each i l).next
+    by_own : (own_operation x 0 0 i ≡ true) ⊎ (own_operation x 0 0 i ≡ false) → D (At 0 e (suc i) t ∷ [])
+    by_own (inl own) = by_rule (inl (inl (I2 0 own next m))) d all_done
+    by_own (inr other) = by_rule (inl (inl (I1 0 other next m))) d all_done
+
+  at_derived : (e i s : ℕ) → i ≤ plain.last → on_path app e i s ≡ true → D (At 0 e 0 e ∷ []) → D (At 0 e i s ∷ [])
+  at_derived e zero s l h d = subst (λ n. D (At 0 e 0 n ∷ [])) (same_number e s (both (nat_lt e 8) _ h).1) d
+  at_derived e (suc i) s l h d =
+      let r = some_below (comes_by app e i s) 8 h in
+      let b = both (on_path app e i r.0) _ r.2 in
+      one_on e i r.0 s l b.1 (at_derived e i r.0 (omega arith) b.0 d)
+
+  started : (s : ℕ) → D (View 0 0 s ∷ []) → D (At 0 s 0 s ∷ [])
+  unfolding edge_at callback_at
+  started s d = by_rule (inl (inr (V3 {c = 0} {q = 0} {s = s} {m = 0} {edge = creating 0 0 0} 0 refl refl refl))) d all_done
+
+  ret_derived : (s t : ℕ) → on_path app s plain.last t ≡ true → D (View 0 0 s ∷ []) → D (Ret 0 s t ∷ [])
+  ret_derived s t h d = by_rule (inl (inl (I1_return (returns_last app plain)))) (at_derived s plain.last t (omega arith) h (started s d)) all_done
+
+  carried : (s t : ℕ) → Carries x 0 0 (creating 0 0 0) s t (Ret 0 s t ∷ [])
+  unfolding callback_at
+  carried s t = by_method 0 refl
+
+  view_derived : (s : ℕ) → IsReached (leads app plain.last) s → D (View 0 0 s ∷ [])
+  unfolding edge_at
+  view_derived s at_start = by_rule (inr (V1 (omega arith))) all_done all_done
+  view_derived t (by_step {s = s} r h) =
+      let d = view_derived s r in
+      by_rule (inr (V4 0 refl refl refl (carried s t))) (one_more (Rules x 0) none_given (View 0 0 s) (Ret 0 s t ∷ []) d (ret_derived s t h d)) all_done
+
+  -- ---- violations
+  abbrev acquires_at : ℕ → Bool
+  acquires_at i = acquires 0 (act_at app 0 i) (row_before app 0 i)
+
+  answers : any_below acquires_at plain.last ≡ true → AnswersFor x 0 0
+  unfolding callback_at
+  answers h = let r = some_below acquires_at plain.last h in record { callback = 0; method = 0; index = r.0; entry = refl; acquired = r.2 }
+
+  violates : length app.locks ≡ 1 → (s t : ℕ) → IsReached (leads app plain.last) s → on_path app s plain.last t ≡ true → is_held t ≡ true → any_below acquires_at plain.last ≡ true → IsDerivableViolation x 0 0 0 t
+  unfolding edge_at exits_at
+  violates one s t r h held a =
+      let d = view_derived s r in
+      record {
+        state = 0; before = s; number = 0; edge = creating 0 0 0; needs = Ret 0 s t ∷ [];
+        lock = omega (arith, one); there = refl; from = refl; callback = refl; carries = carried s t;
+        holds = one_more (Rules x 0) none_given (View 0 0 s) (Ret 0 s t ∷ []) d (ret_derived s t h d);
+        exit = refl; held = held; answers = answers a
+      }
+
+  answered : AnswersFor x 0 0 → any_below acquires_at plain.last ≡ true
+  answered a =
+      let zero_m = only_callback app plain 0 a.callback a.method a.entry in
+      let h : acquires_at a.index ≡ true = subst (λ n. acquires 0 (act_at app n a.index) (row_before app n a.index) ≡ true) zero_m a.acquired in
+      below_some acquires_at plain.last a.index (acquired_before app plain a.index _ h) h
+
+  module _ (views : ℕ) (reached : (s : ℕ) → (in_mask views s ≡ true) ↔ IsReached (leads app plain.last) s) where
+    from_carried : (state s t : ℕ) (edge : Edge) (needs : List Fact) → Carries x 0 0 edge s t needs → HasAll (path_facts app plain.last views) (View 0 state s ∷ needs)
+        → (in_mask views s ≡ true) × (on_path app s plain.last t ≡ true)
+    from_carried state s t edge needs (by_method m callback) has =
+        let v = view_first app plain views 0 state s has.0 in
+        let r = ended app plain views reached m (entered x 0 0 edge s) t has.1.0 in
+        (v.2, subst (λ n. on_path app n plain.last t ≡ true) (entered_same app plain views 0 edge s) r.1)
+
+    violated : (t : ℕ) → (v : IsDerivableViolation x 0 0 0 t) → (in_mask views v.before ≡ true) × (on_path app v.before plain.last t ≡ true)
+    violated t v =
+        from_carried v.state v.before t v.edge v.needs v.carries
+        (in_closed (Rules x 0) none_given (path_facts app plain.last views) (λ f h. absurd (true≢false (sym h))) (closed app plain views reached) v.holds)
+
+    -- the statuses at which a callback that began at a view ends, where a lock is acquired and they are held
+    pub are_held : length app.locks ≡ 1 → (mask : ℕ)
+        → ((t : ℕ) → (in_mask mask t ≡ true) ↔ ((any_below acquires_at plain.last ≡ true) × (is_held t ≡ true) × ((s : ℕ) × (in_mask views s ≡ true) × (on_path app s plain.last t ≡ true))))
+        → AreHeld app mask
+    are_held one mask exact t = (
+      (λ h. let e = (exact t).0 h in violates one e.2.0 t ((reached e.2.0).0 e.2.1) e.2.2 e.1 e.0),
+      (λ v. let w = violated t v in (exact t).1 (answered v.answers, v.held, (v.before, w.0, w.1))),
+    )

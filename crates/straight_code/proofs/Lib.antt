@@ -1,0 +1,4 @@
+pub mod Bools
+pub mod Plain
+pub mod Closed
+pub mod Found

@@ -1,0 +1,5 @@
+pub mod Body
+pub mod Path
+pub mod Scope
+pub mod Reached
+pub mod Verdict

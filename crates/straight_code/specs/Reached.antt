@@ -1,0 +1,11 @@
+-- What is reached from status 0 by steps.
+use Rattle.std.specs.Prelude.{ℕ, ◌≡◌, Bool, true, List, slice_index}
+use Rattle.flow_model.specs.Masks.{in_mask}
+
+pub data IsReached (step : ℕ → ℕ → Bool) : ℕ → Type 0 where
+  at_start : IsReached step 0
+  by_step : {s t : ℕ} → IsReached step s → step s t ≡ true → IsReached step t
+
+-- the steps from each status to those of its mask
+abbrev pub steps_of : List ℕ → ℕ → ℕ → Bool
+steps_of masks s t = in_mask (slice_index masks s) t

@@ -1,0 +1,37 @@
+-- The judgement of a receiver of straight-line code: not of the form, or the statuses of its violations as a mask.
+use Rattle.std.specs.Prelude.{ℕ, ◌≡◌, ◌≤◌, ◌↔◌, List, [], ◌∷◌, length, true, Option, Some, None, slice_get}
+use Rattle.ns_base.specs.declared.rows.TypeNo.{TypeNo}
+use Rattle.app_model.specs.declared.rows.MethodRow.{MethodRow}
+use Rattle.app_model.specs.Parts.{AppParts, ClassParts}
+use Rattle.app_model.specs.Names.{type_text}
+use Rattle.flow_model.specs.Masks.{in_mask}
+use Rattle.flow_model.specs.Policy.{IsDerivableViolation}
+use Rattle.straight_code.specs.Body.{IsPlainBody}
+use Rattle.straight_code.specs.Path.{path_subject}
+use Rattle.straight_code.specs.Scope.{IsInScope}
+
+-- one class without interfaces, whose superclass has another name; one method, whose arguments fit its registers; one lock field
+pub record IsSmallApp (app : AppParts) : Type 0 where
+  pub class : ClassParts
+  pub parent : TypeNo
+  pub method : MethodRow
+  pub classes : app.classes ≡ class ∷ []
+  pub has_parent : class.parent ≡ Some parent
+  pub other : ¬ (type_text app parent.0 ≡ type_text app class.name.0)
+  pub interfaces : class.interfaces ≡ []
+  pub methods : app.methods ≡ method ∷ []
+  pub fits : method.ins ≤ method.registers
+  pub locks : length app.locks ≡ 1
+
+-- its code is plain and in scope
+pub record IsPlainPath (app : AppParts) : Type 0 where
+  pub plain : IsPlainBody app
+  pub scope : IsInScope app
+
+-- the mask has the statuses of the violations that the rules derive
+abbrev pub AreHeld : AppParts → ℕ → Type 0
+AreHeld app mask = (s : ℕ) → (in_mask mask s ≡ true) ↔ IsDerivableViolation (path_subject app) 0 0 0 s
+
+abbrev pub IsVerdict : AppParts → Option ℕ → Type 0
+IsVerdict app None = ¬ IsPlainPath app
+IsVerdict app (Some mask) = IsPlainPath app × AreHeld app mask
