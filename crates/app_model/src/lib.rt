@@ -19,6 +19,7 @@ mod lock_use;
 mod names;
 pub mod opcode;
 mod rows;
+mod slots;
 mod tag;
 
 pub use app::App;
