@@ -2,12 +2,14 @@
 #![tactic(auto)]
 
 mod act;
+mod changes;
 mod masks;
 mod passes;
 mod status;
 mod tags;
 
 pub use act::{Act, Gives};
+pub use changes::{apply, apply_thrown};
 pub use masks::{
     Branches, Outcome, after_acquire, after_is_held, after_mode, after_null, after_release,
     after_store, held_test, image, null_test,
