@@ -2,15 +2,19 @@
 #![tactic(auto)]
 
 mod act;
+mod changes;
 mod masks;
+mod passes;
 mod status;
 mod tags;
 
 pub use act::{Act, Gives};
+pub use changes::{apply, apply_thrown};
 pub use masks::{
     Branches, Outcome, after_acquire, after_is_held, after_mode, after_null, after_release,
-    after_store, held_test, null_test,
+    after_store, held_test, image, null_test,
 };
+pub use passes::{acquires, is_own, pass_mask, tag_in, throws};
 pub use tags::join;
 
 #[cfg(test)]

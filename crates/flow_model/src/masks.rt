@@ -118,8 +118,8 @@ pub fn held_test(mask: u8) -> Branches
     }
 }
 
-// Where a column leads from the statuses of a mask.
-fn image(column: &[u8; 8], mask: u8) -> u8
+/// Where a column of the status table leads from the statuses of a mask.
+pub fn image(column: &[u8; 8], mask: u8) -> u8
     ensures { IsImage (slice_index column.now) mask result }
 {
     let mut image = 0u8;
@@ -142,7 +142,8 @@ fn with_status(column: &[u8; 8], mask: u8, s: usize, image: u8) -> u8
     }
 }
 
-fn has_status(mask: u8, s: usize) -> bool
+// Whether a mask has a status.
+pub(crate) fn has_status(mask: u8, s: usize) -> bool
     requires { s < 8 }
     ensures { result ≡ in_mask mask s }
 {
