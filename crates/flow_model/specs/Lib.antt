@@ -5,7 +5,9 @@ pub mod Status
 pub mod Tags
 pub mod Acts
 pub mod Changes
+pub mod Entries
 pub mod Passes
+pub mod Scope
 pub mod Subject
 pub mod Rules
 pub mod Policy

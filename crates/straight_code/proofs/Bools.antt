@@ -56,8 +56,8 @@ pub none_after : {A : Type 0} (xs : List A) (i k : ℕ) → slice_get xs i ≡ N
 none_after [] i k h l = refl
 none_after (x ∷ xs) zero k h l = absurd (some_none h)
   where
-  some_none : Some x ≡ None → ⊥
-  some_none p = cc
+    some_none : Some x ≡ None → ⊥
+    some_none p = cc
 none_after (x ∷ xs) (suc i) zero h l = absurd (omega arith)
 none_after (x ∷ xs) (suc i) (suc k) h l = none_after xs i k h (omega arith)
 

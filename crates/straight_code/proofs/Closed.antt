@@ -1,5 +1,5 @@
 -- The facts along the path, in the statuses that are reached between callbacks, are a set that no rule leads out of.
-use Rattle.std.proofs.Common.{◌≡◌, ◌⊎◌, ◌↔◌, ℕ, zero, suc, ◌<◌, ◌≤◌, ◌+◌, ◌&&◌, ◌||◌, ◌==◌, nat_lt, Bool, true, false, List, ◌∷◌, [], Option, Some, None, slice_get, refl, sym, ap, ◌∙◌, subst, inl, inr, ⊎_elim, true≢false, arith, add-one}
+use Rattle.std.proofs.Common.{◌≡◌, ◌⊎◌, ◌↔◌, ℕ, zero, suc, ◌<◌, ◌≤◌, ◌&&◌, ◌==◌, nat_lt, Bool, true, List, ◌∷◌, [], Option, Some, None, slice_get, refl, sym, ap, ◌∙◌, subst, inl, inr, ⊎_elim, arith, add-one}
 use Rattle.std.proofs.Math.Bool.{and-false}
 use Rattle.app_model.specs.declared.component.Edge.{Edge}
 use Rattle.app_model.specs.declared.tag.Tag.{Tag}
@@ -10,12 +10,12 @@ use Rattle.flow_model.specs.declared.act.Act.{Act}
 use Rattle.flow_model.specs.declared.act.Act.TheVariants.{ReturnVoid}
 use Rattle.flow_model.specs.Acts.{act_at}
 use Rattle.flow_model.specs.Facts.{Fact, View, At, Ret, Exc}
-use Rattle.flow_model.specs.Masks.{in_mask, any_below}
-use Rattle.flow_model.specs.Derived.{Set, HasAll, IsClosed, Derived, all_done, by_rule}
-use Rattle.flow_model.specs.Subject.{SubjectParts, passes_by, throws_by, status_masks, own_operation}
-use Rattle.flow_model.specs.Rules.{Inside, I1, I1_return, I2, I3, I3_leaves, Starts, V3, Between, V1, V4, Carries, by_method, Rules, entered}
+use Rattle.flow_model.specs.Masks.{in_mask}
+use Rattle.flow_model.specs.Derived.{Set, HasAll, IsClosed}
+use Rattle.flow_model.specs.Subject.{SubjectParts, passes_by, status_masks}
+use Rattle.flow_model.specs.Rules.{Inside, I1, I1_return, I2, I3, I3_leaves, Starts, V3, Between, V1, V4, by_method, Rules, entered}
 use Rattle.straight_code.specs.Body.{IsPlainBody}
-use Rattle.straight_code.specs.Path.{row_before, on_path, path_subject, receiver}
+use Rattle.straight_code.specs.Path.{row_before, on_path, path_subject}
 use Rattle.straight_code.specs.Reached.{IsReached, at_start, by_step}
 use Rattle.straight_code.proofs.Bools.{both, and_join, same_number, number_same, below_is, is_below, in_mask_below, below_some, some_below, none_some}
 use Rattle.std.proofs.lemmas.Bool.{cases_order, cases_lt}
@@ -59,22 +59,22 @@ module _ (app : AppParts) (plain : IsPlainBody app) (views : ℕ) where
   goes_on : (e i s j t k : ℕ) → on_path app e i s ≡ true → successor_at app 0 i k ≡ Some j → in_mask (passes_by 0 (act_at app 0 i) (row_before app 0 i) k s) t ≡ true → on_path app e j t ≡ true
   goes_on e i s j t k h next m = by_place (cases_order i plain.last)
     where
-    by_place : (i ≡ plain.last) ⊎ ((i < plain.last) ⊎ (plain.last < i)) → on_path app e j t ≡ true
-    by_place (inl eq) = absurd (no_passes (row_before app 0 i) k s t (act_at app 0 i) (subst (λ n. act_at app 0 n ≡ Some ReturnVoid) (sym eq) (returns_last app plain)) m)
-    by_place (inr (inl lt)) =
-        let way = one_way app plain i k j lt next in
-        subst (λ n. on_path app e n t ≡ true) (sym (way.1 ∙ add-one i))
-        (next_on_path e i s t h (subst (λ n. in_mask (passes_by 0 (act_at app 0 i) (row_before app 0 i) n s) t ≡ true) way.0 m))
-    by_place (inr (inr gt)) = absurd (no_way_past app i k j (subst (λ n. n ≤ i) (sym plain.len) (omega arith)) next)
+      by_place : (i ≡ plain.last) ⊎ ((i < plain.last) ⊎ (plain.last < i)) → on_path app e j t ≡ true
+      by_place (inl eq) = absurd (no_passes (row_before app 0 i) k s t (act_at app 0 i) (subst (λ n. act_at app 0 n ≡ Some ReturnVoid) (sym eq) (returns_last app plain)) m)
+      by_place (inr (inl lt)) =
+          let way = one_way app plain i k j lt next in
+          subst (λ n. on_path app e n t ≡ true) (sym (way.1 ∙ add-one i))
+          (next_on_path e i s t h (subst (λ n. in_mask (passes_by 0 (act_at app 0 i) (row_before app 0 i) n s) t ≡ true) way.0 m))
+      by_place (inr (inr gt)) = absurd (no_way_past app i k j (subst (λ n. n ≤ i) (sym plain.len) (omega arith)) next)
 
   -- a return
   ends : (e i s : ℕ) → act_at app 0 i ≡ Some ReturnVoid → on_path app e i s ≡ true → on_path app e plain.last s ≡ true
   ends e i s r h = by_place (cases_order i plain.last)
     where
-    by_place : (i ≡ plain.last) ⊎ ((i < plain.last) ⊎ (plain.last < i)) → on_path app e plain.last s ≡ true
-    by_place (inl eq) = subst (λ n. on_path app e n s ≡ true) eq h
-    by_place (inr (inl lt)) = absurd (no_return app plain i lt r)
-    by_place (inr (inr gt)) = absurd (no_return_past app i (subst (λ n. n ≤ i) (sym plain.len) (omega arith)) r)
+      by_place : (i ≡ plain.last) ⊎ ((i < plain.last) ⊎ (plain.last < i)) → on_path app e plain.last s ≡ true
+      by_place (inl eq) = subst (λ n. on_path app e n s ≡ true) eq h
+      by_place (inr (inl lt)) = absurd (no_return app plain i lt r)
+      by_place (inr (inr gt)) = absurd (no_return_past app i (subst (λ n. n ≤ i) (sym plain.len) (omega arith)) r)
 
   -- a throw comes to no handler
   uncaught : (i k h : ℕ) → handler_at app 0 i k ≡ Some h → ⊥
@@ -114,16 +114,16 @@ module _ (app : AppParts) (plain : IsPlainBody app) (views : ℕ) where
   unfolding edge_at
   only_edge zero edge h = some_same h
     where
-    some_same : Some (creating 0 0 0) ≡ Some edge → creating 0 0 0 ≡ edge
-    some_same p = cc
+      some_same : Some (creating 0 0 0) ≡ Some edge → creating 0 0 0 ≡ edge
+      some_same p = cc
   only_edge (suc e) edge h = absurd (none_some edge None refl h)
 
   pub only_callback : (k m : ℕ) → callback_at x.list 0 k ≡ Some m → m ≡ 0
   unfolding callback_at
   only_callback zero m h = same m h
     where
-    same : (m : ℕ) → Some 0 ≡ Some m → m ≡ 0
-    same m p = cc
+      same : (m : ℕ) → Some 0 ≡ Some m → m ≡ 0
+      same m p = cc
   only_callback (suc k) m h = absurd (none_some m None refl h)
 
   pub view_first : (c q s : ℕ) → set (View c q s) ≡ true → (c ≡ 0) × (q ≡ 0) × (in_mask views s ≡ true)

@@ -1,17 +1,16 @@
 -- What lies on the path is derived, and so the statuses at the end of a callback that began at a reached status are
 -- those of the violations.
-use Rattle.std.proofs.Common.{◌≡◌, ◌⊎◌, ◌↔◌, ℕ, zero, suc, ◌<◌, ◌≤◌, ◌+◌, ◌&&◌, ◌==◌, nat_lt, Bool, true, false, List, ◌∷◌, [], length, Option, Some, None, refl, sym, ap, ◌∙◌, subst, inl, inr, ⊎_elim, true≢false, arith, add-one}
+use Rattle.std.proofs.Common.{◌≡◌, ◌⊎◌, ◌↔◌, ℕ, zero, suc, ◌<◌, ◌≤◌, nat_lt, Bool, true, false, List, ◌∷◌, [], length, Some, refl, sym, subst, inl, inr, true≢false, arith, add-one}
 use Rattle.std.proofs.lemmas.Bool.{cases_Bool}
 use Rattle.app_model.specs.declared.component.Edge.{Edge}
 use Rattle.app_model.specs.Parts.{AppParts}
 use Rattle.app_model.specs.Words.{successor_at}
 use Rattle.app_model.specs.Components.{edge_at, callback_at, exits_at, creating}
-use Rattle.flow_model.specs.declared.act.Act.TheVariants.{ReturnVoid}
 use Rattle.flow_model.specs.Acts.{act_at}
-use Rattle.flow_model.specs.Facts.{Fact, View, At, Ret, Exc}
+use Rattle.flow_model.specs.Facts.{Fact, View, At, Ret}
 use Rattle.flow_model.specs.Masks.{in_mask, any_below}
 use Rattle.flow_model.specs.Derived.{HasAll, Derived, all_done, by_rule}
-use Rattle.flow_model.specs.Policy.{acquires, is_held, none_given, AnswersFor, IsViolation, IsDerivableViolation}
+use Rattle.flow_model.specs.Policy.{acquires, is_held, none_given, AnswersFor, IsDerivableViolation}
 use Rattle.flow_model.specs.Subject.{SubjectParts, passes_by, own_operation}
 use Rattle.flow_model.specs.Rules.{I1, I1_return, I2, V3, V1, V4, Carries, by_method, Rules, entered}
 use Rattle.flow_model.proofs.Laws.{in_closed, one_more}
@@ -33,11 +32,12 @@ module _ (app : AppParts) (plain : IsPlainBody app) where
   one_on : (e i s t : ℕ) → i < plain.last → in_mask (passes_by 0 (act_at app 0 i) (row_before app 0 i) 0 s) t ≡ true → D (At 0 e i s ∷ []) → D (At 0 e (suc i) t ∷ [])
   one_on e i s t l m d = by_own (cases_Bool (own_operation x 0 0 i))
     where
-    next : successor_at app 0 i 0 ≡ Some (suc i)
-    next = subst (λ n. successor_at app 0 i 0 ≡ Some n) (add-one i) (plain.each i l).next
-    by_own : (own_operation x 0 0 i ≡ true) ⊎ (own_operation x 0 0 i ≡ false) → D (At 0 e (suc i) t ∷ [])
-    by_own (inl own) = by_rule (inl (inl (I2 0 own next m))) d all_done
-    by_own (inr other) = by_rule (inl (inl (I1 0 other next m))) d all_done
+      next : successor_at app 0 i 0 ≡ Some (suc i)
+      next = subst (λ n. successor_at app 0 i 0 ≡ Some n) (add-one i) (plain.each i l).next
+
+      by_own : (own_operation x 0 0 i ≡ true) ⊎ (own_operation x 0 0 i ≡ false) → D (At 0 e (suc i) t ∷ [])
+      by_own (inl own) = by_rule (inl (inl (I2 0 own next m))) d all_done
+      by_own (inr other) = by_rule (inl (inl (I1 0 other next m))) d all_done
 
   at_derived : (e i s : ℕ) → i ≤ plain.last → on_path app e i s ≡ true → D (At 0 e 0 e ∷ []) → D (At 0 e i s ∷ [])
   at_derived e zero s l h d = subst (λ n. D (At 0 e 0 n ∷ [])) (same_number e s (both (nat_lt e 8) _ h).1) d
@@ -77,10 +77,20 @@ module _ (app : AppParts) (plain : IsPlainBody app) where
   violates one s t r h held a =
       let d = view_derived s r in
       record {
-        state = 0; before = s; number = 0; edge = creating 0 0 0; needs = Ret 0 s t ∷ [];
-        lock = omega (arith, one); there = refl; from = refl; callback = refl; carries = carried s t;
+        state = 0;
+        before = s;
+        number = 0;
+        edge = creating 0 0 0;
+        needs = Ret 0 s t ∷ [];
+        lock = omega (arith, one);
+        there = refl;
+        from = refl;
+        callback = refl;
+        carries = carried s t;
         holds = one_more (Rules x 0) none_given (View 0 0 s) (Ret 0 s t ∷ []) d (ret_derived s t h d);
-        exit = refl; held = held; answers = answers a
+        exit = refl;
+        held = held;
+        answers = answers a;
       }
 
   answered : AnswersFor x 0 0 → any_below acquires_at plain.last ≡ true

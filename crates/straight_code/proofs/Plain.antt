@@ -1,5 +1,5 @@
 -- What follows for straight-line code from its form.
-use Rattle.std.proofs.Common.{◌≡◌, ◌⊎◌, ℕ, zero, suc, ◌<◌, ◌≤◌, ◌+◌, ◌&&◌, ◌||◌, ◌==◌, if◌then◌else◌, nat_lt, Bool, true, false, List, ◌∷◌, [], Option, Some, None, length, slice_get, refl, sym, ap, ◌∙◌, subst, inl, inr, ⊎_elim, true≢false, arith}
+use Rattle.std.proofs.Common.{◌≡◌, ◌⊎◌, ℕ, zero, suc, ◌<◌, ◌≤◌, ◌+◌, if◌then◌else◌, Bool, true, false, List, Option, Some, None, refl, sym, ap, ◌∙◌, subst, inl, inr, true≢false, arith}
 use Rattle.app_model.specs.declared.ins.Ins.{Ins}
 use Rattle.app_model.specs.declared.ins.Ins.TheVariants as ins
 use Rattle.app_model.specs.declared.ins.Args.{Args}
@@ -12,12 +12,12 @@ use Rattle.app_model.specs.Slots.{slot_at}
 use Rattle.app_model.specs.LockUse.{lock_use_at}
 use Rattle.app_model.specs.Words.{place_at, successor_of, handler_of, successor_at, handler_at, ins_at, ins_of, code_len, places_of, named_at}
 use Rattle.flow_model.specs.declared.act.Act.{Act}
-use Rattle.flow_model.specs.declared.act.Act.TheVariants.{ReturnVoid, Other, TakeResult, WriteZero, WriteNonzero, ReadStatic, WriteStatic, Call}
+use Rattle.flow_model.specs.declared.act.Act.TheVariants.{ReturnVoid, Other, TakeResult, WriteZero, WriteNonzero, ReadStatic, WriteStatic}
 use Rattle.flow_model.specs.Acts.{act_at, act_of, act_by, call_of, lock_no, is_zero}
 use Rattle.flow_model.specs.Policy.{acquires}
 use Rattle.std.proofs.lemmas.Bool.{cases_order}
 use Rattle.app_model.specs.declared.tag.Tag.{Tag}
-use Rattle.straight_code.specs.Body.{IsPlainBody, IsPlainPlace, is_plain, is_plain_at}
+use Rattle.straight_code.specs.Body.{IsPlainBody, is_plain, is_plain_at}
 use Rattle.straight_code.proofs.Bools.{none_after, none_past, none_some}
 
 -- ---- one way on
@@ -25,8 +25,8 @@ one_way_by : (p : Option Place) (i k j : ℕ) → successor_of p 1 ≡ None → 
 one_way_by None i k j none first h = absurd (none_some j None refl h)
 one_way_by (Some p) i zero j none first h = (refl, same j (i + 1) (sym h ∙ first))
   where
-  same : (a b : ℕ) → Some a ≡ Some b → a ≡ b
-  same a b p = cc
+    same : (a b : ℕ) → Some a ≡ Some b → a ≡ b
+    same a b p = cc
 one_way_by (Some p) i (suc k) j none first h = absurd (none_some j _ (none_after p.successors 1 (suc k) none (omega arith)) h)
 
 pub one_way : (app : AppParts) → (plain : IsPlainBody app) → (i k j : ℕ) → i < plain.last → successor_at app 0 i k ≡ Some j → (k ≡ 0) × (j ≡ i + 1)
@@ -36,12 +36,12 @@ one_way app plain i k j l h = one_way_by (place_at app 0 i) i k j (plain.each i 
 pub no_handler : (app : AppParts) → IsPlainBody app → (i k h : ℕ) → i < code_len app 0 → handler_at app 0 i k ≡ Some h → ⊥
 no_handler app plain i k h l eq = by_place (place_at app 0 i) (plain.uncaught i l) eq
   where
-  by_place : (p : _) → handler_of p 0 ≡ None → handler_of p k ≡ Some h → ⊥
-  by_place None none eq = cc
-  by_place (Some p) none eq = clash (sym (none_after p.handlers 0 k none (omega arith)) ∙ eq)
-    where
-    clash : None ≡ Some h → ⊥
-    clash p = cc
+    by_place : (p : _) → handler_of p 0 ≡ None → handler_of p k ≡ Some h → ⊥
+    by_place None none eq = cc
+    by_place (Some p) none eq = clash (sym (none_after p.handlers 0 k none (omega arith)) ∙ eq)
+      where
+        clash : None ≡ Some h → ⊥
+        clash p = cc
 
 -- ---- the return comes last
 abbrev returns : Act → Bool
@@ -72,8 +72,8 @@ no_return_by : (app : AppParts) (i : ℕ) (o : Option Ins) → is_plain_at app i
 no_return_by app i None p q = true≢false (sym p)
 no_return_by app i (Some x) p q = true≢false (sym (ap returns (inner q)) ∙ plain_no_return app i x p)
   where
-  inner : Some (act_of app 0 i x) ≡ Some ReturnVoid → act_of app 0 i x ≡ ReturnVoid
-  inner r = cc
+    inner : Some (act_of app 0 i x) ≡ Some ReturnVoid → act_of app 0 i x ≡ ReturnVoid
+    inner r = cc
 
 pub no_return : (app : AppParts) → (plain : IsPlainBody app) → (i : ℕ) → i < plain.last → act_at app 0 i ≡ Some ReturnVoid → ⊥
 unfolding act_at
@@ -129,7 +129,7 @@ acquired_inside app i row l h = acquired_nowhere app i row (place_at app 0 i) (n
 pub acquired_before : (app : AppParts) → (plain : IsPlainBody app) → (i : ℕ) (row : List Tag) → acquires 0 (act_at app 0 i) row ≡ true → i < plain.last
 acquired_before app plain i row h = by_place (cases_order i plain.last)
   where
-  by_place : (i ≡ plain.last) ⊎ ((i < plain.last) ⊎ (plain.last < i)) → i < plain.last
-  by_place (inl eq) = absurd (not_acquired (act_at app 0 i) row (subst (λ n. act_at app 0 n ≡ Some ReturnVoid) (sym eq) (returns_last app plain)) h)
-  by_place (inr (inl lt)) = lt
-  by_place (inr (inr gt)) = absurd (acquired_inside app i row (subst (λ n. n ≤ i) (sym plain.len) (omega arith)) h)
+    by_place : (i ≡ plain.last) ⊎ ((i < plain.last) ⊎ (plain.last < i)) → i < plain.last
+    by_place (inl eq) = absurd (not_acquired (act_at app 0 i) row (subst (λ n. act_at app 0 n ≡ Some ReturnVoid) (sym eq) (returns_last app plain)) h)
+    by_place (inr (inl lt)) = lt
+    by_place (inr (inr gt)) = absurd (acquired_inside app i row (subst (λ n. n ≤ i) (sym plain.len) (omega arith)) h)

@@ -1,46 +1,15 @@
 -- The tags along the one path of straight-line code, and the statuses that come to each instruction.
-use Rattle.std.specs.Prelude.{ℕ, zero, suc, ◌+◌, ◌-◌, ◌==◌, nat_lt, Bool, true, false, ◌&&◌, List, [], ◌∷◌, ◌++◌, replicate, Option, Some, None, slice_get}
-use Rattle.ns_base.specs.declared.rows.ClassNo.{ClassNo}
-use Rattle.ns_base.specs.declared.rows.MethodNo.{MethodNo}
+use Rattle.std.specs.Prelude.{ℕ, zero, suc, ◌==◌, nat_lt, Bool, ◌&&◌, List, [], ◌∷◌, Option, Some, None, slice_get}
 use Rattle.app_model.specs.declared.tag.Tag.{Tag}
-use Rattle.app_model.specs.declared.tag.Tag.TheVariants.{Zero, Solid, Any}
 use Rattle.app_model.specs.declared.component.Kind.TheVariants.{Receiver}
-use Rattle.app_model.specs.declared.rows.MethodRow.{MethodRow}
-use Rattle.app_model.specs.declared.lock_use.LockUse.TheVariants.{Make}
 use Rattle.app_model.specs.Parts.{AppParts}
 use Rattle.app_model.specs.Components.{ComponentParts}
 use Rattle.flow_model.specs.declared.act.Act.{Act}
-use Rattle.flow_model.specs.declared.act.Act.TheVariants.{Call}
 use Rattle.flow_model.specs.Acts.{act_at}
 use Rattle.flow_model.specs.Changes.{after}
+use Rattle.flow_model.specs.Entries.{entry_row, site_at}
 use Rattle.flow_model.specs.Masks.{in_mask, any_below}
 use Rattle.flow_model.specs.Subject.{SubjectParts, passes_by}
-
--- the tags with which a callback of so many registers and argument registers begins: its receiver is solid, its
--- other arguments are no locks, all else is zero
-abbrev pub arguments_row : ℕ → List Tag
-arguments_row zero = []
-arguments_row (suc n) = Solid ∷ replicate n Any
-
-abbrev pub callback_row : ℕ → ℕ → List Tag
-callback_row registers ins = replicate (registers - ins) Zero ++ arguments_row ins ++ Zero ∷ []
-
-abbrev pub entry_row : Option MethodRow → List Tag
-entry_row None = []
-entry_row (Some method) = callback_row method.registers method.ins
-
-abbrev pub makes_lock : Option Act → Bool
-makes_lock (Some (Call Make arguments gives)) = true
-makes_lock act = false
-
-abbrev pub one_if : Bool → ℕ
-one_if true = 1
-one_if false = 0
-
--- how many locks are made before an instruction of method m
-abbrev pub makes_before : AppParts → ℕ → ℕ → ℕ
-makes_before app m zero = 0
-makes_before app m (suc i) = makes_before app m i + one_if (makes_lock (act_at app m i))
 
 abbrev pub row_after : ℕ → Option Act → List Tag → List Tag
 row_after site None row = row
@@ -49,7 +18,7 @@ row_after site (Some act) row = after site act row
 -- the tags before instruction i of method m, where each instruction leads to the next one
 abbrev pub row_before : AppParts → ℕ → ℕ → List Tag
 row_before app m zero = entry_row (slice_get app.methods m)
-row_before app m (suc i) = row_after (makes_before app m i) (act_at app m i) (row_before app m i)
+row_before app m (suc i) = row_after (site_at app m i) (act_at app m i) (row_before app m i)
 
 -- the one receiver, whose callback is method 0 and an exit
 abbrev pub receiver : ComponentParts

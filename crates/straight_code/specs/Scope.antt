@@ -1,23 +1,14 @@
 -- The scope rules of threads, escapes, lock calls and two stores, along the path of method 0.
-use Rattle.std.specs.Prelude.{ℕ, ◌≡◌, ◌⊎◌, ◌<◌, ◌+◌, ◌==◌, nat_le, Bool, true, false, if◌then◌else◌, ◌&&◌, ◌||◌, List, [], ◌∷◌, Contains, Option, Some, None, slice_index, codes}
-use Rattle.ns_base.specs.declared.rows.LockNo.{LockNo}
-use Rattle.app_model.specs.declared.tag.Tag.{Tag}
-use Rattle.app_model.specs.declared.tag.Tag.TheVariants.{Bot, Zero, Solid, Held, Any, Field, New, Mixed}
-use Rattle.app_model.specs.declared.ins.Args.{Args}
-use Rattle.app_model.specs.declared.ins.Args.TheVariants as args
+use Rattle.std.specs.Prelude.{ℕ, ◌≡◌, ◌⊎◌, ◌<◌, Bool, true, false, List, [], ◌∷◌, Contains, Option, Some, codes}
 use Rattle.app_model.specs.declared.rows.Named.{Named}
-use Rattle.app_model.specs.declared.lock_use.LockUse.{LockUse}
-use Rattle.app_model.specs.declared.lock_use.LockUse.TheVariants.{Wrong}
 use Rattle.app_model.specs.Parts.{AppParts}
 use Rattle.app_model.specs.Words.{code_len, named_at}
 use Rattle.app_model.specs.Names.{type_text}
 use Rattle.app_model.specs.Subtypes.{IsSubtype}
 use Rattle.flow_model.specs.declared.act.Act.{Act}
-use Rattle.flow_model.specs.declared.act.Act.TheVariants.{WriteStatic, Call}
-use Rattle.flow_model.specs.Acts.{act_at, receiver_of}
-use Rattle.flow_model.specs.Changes.{tag_in}
-use Rattle.flow_model.specs.Masks.{any_below}
-use Rattle.flow_model.specs.Passes.{is_lock_call, is_slot}
+use Rattle.flow_model.specs.declared.act.Act.TheVariants.{Call}
+use Rattle.flow_model.specs.Acts.{act_at}
+use Rattle.flow_model.specs.Scope.{is_escape, is_wrong_call, stores_new}
 use Rattle.straight_code.specs.Path.{row_before}
 
 -- ---- threads
@@ -36,83 +27,6 @@ abbrev pub IsThreadCall : AppParts → Option Act → Option Named → Type 0
 IsThreadCall app (Some (Call usage arguments gives)) (Some named) =
     IsThread app (type_text app named.class.0) ⊎ (type_text app named.class.0 ≡ codes "Ljava/util/concurrent/Executors;")
 IsThreadCall app act named = ⊥
-
--- ---- escapes
--- the tags of what may be a lock
-abbrev pub may_be_lock : Tag → Bool
-may_be_lock (Field l) = true
-may_be_lock (New s) = true
-may_be_lock Mixed = true
-may_be_lock Bot = false
-may_be_lock Zero = false
-may_be_lock Solid = false
-may_be_lock (Held l) = false
-may_be_lock Any = false
-
-abbrev pub is_new : Tag → Bool
-is_new (New s) = true
-is_new tag = false
-
-abbrev pub arg_count : Args → ℕ
-arg_count (args.List count registers) = count
-arg_count (args.Range first count) = count
-
-abbrev pub arg_at : Args → ℕ → ℕ
-arg_at (args.List count registers) k = slice_index registers k
-arg_at (args.Range first count) k = first + k
-
--- an argument of that number or a later one may be a lock
-abbrev pub passes_lock : List Tag → Args → ℕ → Bool
-passes_lock row arguments from = any_below (λ k. nat_le from k && may_be_lock (tag_in row (arg_at arguments k))) (arg_count arguments)
-
--- the receiver of a lock call may be what a field holds
-abbrev pub escapes_as_receiver : Tag → Bool
-escapes_as_receiver (New s) = true
-escapes_as_receiver Mixed = true
-escapes_as_receiver tag = false
-
-abbrev pub call_escapes : Bool → List Tag → Args → Bool
-call_escapes true row arguments = escapes_as_receiver (tag_in row (receiver_of arguments)) || passes_lock row arguments 1
-call_escapes false row arguments = passes_lock row arguments 0
-
--- what may be stored into a lock field: null, or a new lock
-abbrev pub may_be_stored : Tag → Bool
-may_be_stored Bot = true
-may_be_stored Zero = true
-may_be_stored (New s) = true
-may_be_stored Solid = false
-may_be_stored (Held l) = false
-may_be_stored Any = false
-may_be_stored (Field l) = false
-may_be_stored Mixed = false
-
--- a store into a lock field of something else, or of what may be a lock into another field
-abbrev pub write_escapes : Option LockNo → Tag → Bool
-write_escapes None stored = may_be_lock stored
-write_escapes (Some l) stored = if may_be_stored stored then false else true
-
-abbrev pub is_escape : Option Act → List Tag → Bool
-is_escape (Some (Call usage arguments gives)) row = call_escapes (is_lock_call usage) row arguments
-is_escape (Some (WriteStatic from slot)) row = write_escapes slot (tag_in row from)
-is_escape act row = false
-
--- ---- lock calls
-abbrev pub is_no_lock : Tag → Bool
-is_no_lock Solid = true
-is_no_lock Any = true
-is_no_lock (Held l) = true
-is_no_lock tag = false
-
--- a form of call that is none of the known ones, or a lock call on what is no lock
-abbrev pub is_wrong_call : Option Act → List Tag → Bool
-is_wrong_call (Some (Call Wrong arguments gives)) row = true
-is_wrong_call (Some (Call usage arguments gives)) row = is_lock_call usage && is_no_lock (tag_in row (receiver_of arguments))
-is_wrong_call act row = false
-
--- ---- stores of new locks to field l
-abbrev pub stores_new : ℕ → Option Act → List Tag → Bool
-stores_new l (Some (WriteStatic from slot)) row = is_slot l slot && is_new (tag_in row from)
-stores_new l act row = false
 
 abbrev pub stores_new_at : AppParts → ℕ → ℕ → Bool
 stores_new_at app l i = stores_new l (act_at app 0 i) (row_before app 0 i)
