@@ -5,3 +5,11 @@
 //! - `views` finds the statuses between callbacks.
 //! - `verdict` joins them: `judge`.
 #![tactic(auto)]
+
+mod body;
+
+
+
+
+
+
