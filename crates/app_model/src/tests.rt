@@ -3,6 +3,8 @@ use crate::{App, AppRows, Few, FieldRow};
 use ns_base::{ClassNo, FieldNo, NameNo, TypeNo};
 use std::test::Fail;
 
+mod locks;
+
 #[test]
 fn short_lists_keep_their_numbers(rt: HostRuntime) -> Result<(), Fail> {
     let mut few = Few::new();
