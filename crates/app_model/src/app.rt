@@ -11,7 +11,7 @@ use std::marker::Model;
 /// All that the layers above read of the files: rows by number, and each method's code.
 #[derive(Drop)]
 pub struct App {
-    rows: AppRows,
+    pub(crate) rows: AppRows,
 }
 
 impl Model for App {
@@ -202,7 +202,7 @@ impl App {
     }
 
     #[tactic(auto, unfolding(crate::specs::Words::operand_at))]
-    fn operand(&self, method: MethodNo, index: u32) -> Operand
+    pub(crate) fn operand(&self, method: MethodNo, index: u32) -> Operand
         requires method { method.0 < length self.now.methods }
         requires index { index < code_len self.now method.0 }
         ensures { operand_at self.now method.0 index ≡ Some result }

@@ -16,8 +16,10 @@ mod component;
 mod few;
 mod ins;
 mod lock_use;
+mod names;
 pub mod opcode;
 mod rows;
+mod slots;
 mod tag;
 
 pub use app::App;
@@ -26,6 +28,7 @@ pub use component::{ComponentRow, Edge, Kind};
 pub use few::Few;
 pub use ins::{Args, Ins};
 pub use lock_use::LockUse;
+pub use names::{POWER_MANAGER, STRING, WAKE_LOCK};
 pub use rows::{AppRows, ClassRow, FieldRow, MethodRow, Named, NamedField, Operand, ProtoRow};
 pub use tag::Tag;
 
