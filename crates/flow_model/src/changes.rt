@@ -1,7 +1,6 @@
 //! How instructions change the tags of a method's registers. A row has a tag for each register, and the last one for
 //! the result cell.
-ghost use Rattle.std.specs.Prelude.{◌≡◌, ◌<◌, length, map, slice_set};
-ghost use Rattle.flow_model.specs.Acts.{receiver_of};
+ghost use Rattle.std.specs.Prelude.{◌≡◌, map, slice_set};
 ghost use Rattle.flow_model.specs.Changes as spec;
 
 use crate::act::{Act, Gives};
@@ -66,7 +65,7 @@ fn set_result(row: &mut [Tag], tag: Tag)
     }
 }
 
-// What a call does to each tag, by the tag of its receiver.
+// Changes each tag by a call, by the tag of its receiver.
 fn change_by_call(row: &mut [Tag], usage: LockUse, receiver: Tag)
     ensures { row.new ≡ map (spec.call_change usage receiver) row.old }
 {

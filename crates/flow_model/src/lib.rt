@@ -8,7 +8,7 @@ mod passes;
 mod status;
 mod tags;
 
-pub use act::{Act, Gives};
+pub use act::{Act, Gives, act_of};
 pub use changes::{apply, apply_thrown};
 pub use masks::{
     Branches, Outcome, after_acquire, after_is_held, after_mode, after_null, after_release,

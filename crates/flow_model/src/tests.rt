@@ -1,9 +1,10 @@
-//! The status table at the cases that tell most, and joins.
+//! The status table at the cases that tell most, joins, and what instructions do to statuses and tags.
 use crate::{
-    after_acquire, after_is_held, after_mode, after_null, after_release, after_store, held_test,
-    join, null_test,
+    Act, Gives, acquires, after_acquire, after_is_held, after_mode, after_null, after_release,
+    after_store, apply, apply_thrown, held_test, image, is_own, join, null_test, pass_mask, tag_in,
+    throws,
 };
-use app_model::Tag;
+use app_model::{Args, LockUse, Tag};
 use ns_base::LockNo;
 
 const A: u8 = 0x01;
@@ -21,6 +22,15 @@ const U0: u8 = 0x20;
 const U1: u8 = 0x40;
 
 const L: u8 = 0x80;
+
+// The same statuses as numbers.
+const AT_A: u8 = 0;
+
+const AT_C0: u8 = 1;
+
+const AT_C1: u8 = 2;
+
+const AT_L: u8 = 7;
 
 #[test]
 fn statuses_change_by_the_table(rt: HostRuntime) {
@@ -64,4 +74,113 @@ fn statuses_change_by_the_table(rt: HostRuntime) {
     ] {
         assert_eq!(rt; join(a, b), both, "{a:?} {b:?}");
     }
+}
+
+// A call whose receiver is in this register.
+fn call(usage: LockUse, receiver: u32, gives: Gives) -> Act {
+    Act::Call {
+        usage,
+        args: Args::Range {
+            first: receiver,
+            count: 1,
+        },
+        gives,
+    }
+}
+
+fn write(from: u32, lock: u32) -> Act {
+    Act::WriteStatic {
+        from,
+        slot: Some(LockNo(lock)),
+    }
+}
+
+#[test]
+fn outside_calls_pass_and_throw_by_their_receiver(rt: HostRuntime) {
+    let outside = call(LockUse::Plain, 0, Gives::Nothing);
+    let field = Tag::Field(LockNo(0));
+    for (receiver, status, passed, thrown) in [
+        (Tag::Bot, AT_C1, 0, 0),
+        (Tag::Zero, AT_C1, 0, C1),
+        (Tag::Solid, AT_C1, C1, C1),
+        (field, AT_A, 0, A),
+        (field, AT_C1, C1, C1),
+        (field, AT_L, L, L),
+        (Tag::Field(LockNo(1)), AT_A, A, A),
+    ] {
+        let row = [receiver, Tag::Bot];
+        assert_eq!(rt;
+            (
+                pass_mask(LockNo(0), outside, &row, 0, status),
+                throws(LockNo(0), outside, &row, status)
+            ),
+            (passed, thrown),
+            "{receiver:?}"
+        );
+        assert!(rt; !is_own(LockNo(0), outside, &row));
+    }
+}
+
+#[test]
+fn lock_calls_and_stores_act_on_their_own_field(rt: HostRuntime) {
+    let acquire = call(LockUse::Acquire, 0, Gives::Nothing);
+    let row = [Tag::Field(LockNo(0)), Tag::New(3), Tag::Zero, Tag::Bot];
+    for (lock, passed, thrown, own) in [(0, C1, 0, true), (1, C0, C0, false)] {
+        let lock = LockNo(lock);
+        assert_eq!(rt; pass_mask(lock, acquire, &row, 0, AT_C0), passed);
+        assert_eq!(rt; throws(lock, acquire, &row, AT_C0), thrown);
+        assert_eq!(rt;
+            (is_own(lock, acquire, &row), acquires(lock, acquire, &row)),
+            (own, own)
+        );
+    }
+    for (from, status, passed) in [(1, AT_C1, L), (2, AT_C0, A), (0, AT_C0, 0)] {
+        assert_eq!(rt;
+            pass_mask(LockNo(0), write(from, 0), &row, 0, status),
+            passed,
+            "from {from}"
+        );
+        assert_eq!(rt; throws(LockNo(0), write(from, 0), &row, status), 0);
+        assert!(rt;
+            is_own(LockNo(0), write(from, 0), &row) && !is_own(LockNo(1), write(from, 0), &row)
+        );
+    }
+    assert_eq!(rt; (tag_in(&row, 1), tag_in(&row, 4)), (Tag::New(3), Tag::Bot));
+    assert_eq!(rt; image(&[0x02, 0x04, 0, 0, 0, 0, 0, 0x01], A | L), C0 | A);
+}
+
+#[test]
+fn a_new_lock_is_stored_and_cleared(rt: HostRuntime) {
+    let (field, other) = (Tag::Field(LockNo(0)), Tag::Field(LockNo(1)));
+    let mut row = [Tag::Solid, Tag::Zero, other, Tag::Any];
+    for (act, want) in [
+        (
+            call(LockUse::Make, 0, Gives::Object),
+            [Tag::Solid, Tag::Zero, other, Tag::New(5)],
+        ),
+        (
+            Act::TakeResult { to: 0 },
+            [Tag::New(5), Tag::Zero, other, Tag::New(5)],
+        ),
+        (write(0, 0), [field, Tag::Zero, other, Tag::Mixed]),
+        (write(1, 0), [Tag::Mixed, Tag::Zero, other, Tag::Mixed]),
+    ] {
+        apply(&mut row, 5, act);
+        assert_eq!(rt; row, want, "after {act:?}");
+    }
+}
+
+#[test]
+fn a_release_forgets_whether_its_lock_is_held(rt: HostRuntime) {
+    let (field, held) = (Tag::Field(LockNo(0)), Tag::Held(LockNo(0)));
+    let mut row = [field, Tag::Bot, Tag::Held(LockNo(1)), Tag::Any];
+    apply(&mut row, 0, call(LockUse::IsHeld, 0, Gives::Number));
+    apply(&mut row, 0, Act::TakeResult { to: 1 });
+    assert_eq!(rt; row, [field, held, Tag::Held(LockNo(1)), held]);
+    let release = call(LockUse::Release, 0, Gives::Nothing);
+    let mut thrown = row;
+    apply_thrown(&mut thrown, release);
+    assert_eq!(rt; thrown, [field, Tag::Any, Tag::Held(LockNo(1)), Tag::Any]);
+    apply(&mut row, 0, release);
+    assert_eq!(rt; row, [field, Tag::Any, Tag::Held(LockNo(1)), Tag::Zero]);
 }
