@@ -5,6 +5,7 @@ mod act;
 mod changes;
 mod masks;
 mod passes;
+mod scope;
 mod status;
 mod tags;
 
@@ -15,6 +16,7 @@ pub use masks::{
     after_store, held_test, image, null_test,
 };
 pub use passes::{acquires, is_own, pass_mask, tag_in, throws};
+pub use scope::{is_escape, is_wrong_call, stores_new};
 pub use tags::join;
 
 #[cfg(test)]

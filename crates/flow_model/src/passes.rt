@@ -143,7 +143,7 @@ fn is_field(lock: LockNo, tag: Tag) -> bool
     }
 }
 
-fn is_lock_call(usage: LockUse) -> bool
+pub(crate) fn is_lock_call(usage: LockUse) -> bool
     ensures { result ≡ spec.is_lock_call usage }
 {
     match usage {
@@ -152,7 +152,7 @@ fn is_lock_call(usage: LockUse) -> bool
     }
 }
 
-fn is_slot(lock: LockNo, slot: Option<LockNo>) -> bool
+pub(crate) fn is_slot(lock: LockNo, slot: Option<LockNo>) -> bool
     ensures { result ≡ spec.is_slot lock.0 slot }
 {
     match slot {

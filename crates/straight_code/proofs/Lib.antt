@@ -1,4 +1,3 @@
-pub mod Bools
 pub mod Plain
 pub mod Closed
 pub mod Found

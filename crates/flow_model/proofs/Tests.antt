@@ -1,5 +1,5 @@
 -- Tests that hold.
-use Rattle.std.proofs.Common.{◌≡◌, ◌⊎◌, ℕ, zero, suc, ◌<◌, ◌≤◌, ◌&&◌, ◌||◌, ◌==◌, nat_lt, Bool, true, false, List, ◌∷◌, [], Option, Some, None, slice_get, refl, sym, subst, inl, inr, ⊎_elim, true≢false, arith, length, eq-or-lt_of_le, le_of_suc-le-suc, not-suc-le-zero}
+use Rattle.std.proofs.Common.{◌≡◌, ◌⊎◌, ℕ, zero, suc, ◌<◌, ◌≤◌, ◌+◌, ◌&&◌, ◌||◌, ◌==◌, nat_lt, Bool, true, false, List, ◌∷◌, [], Option, Some, None, slice_get, refl, sym, subst, inl, inr, ⊎_elim, true≢false, arith, length, eq-or-lt_of_le, le_of_suc-le-suc, not-suc-le-zero, add-one}
 use Rattle.std.proofs.lemmas.Bool.Decides.{nat_tests}
 use Rattle.flow_model.specs.Masks.{any_below, in_mask}
 
@@ -69,3 +69,10 @@ none_past (x ∷ xs) (suc i) l = none_past xs i (le_of_suc-le-suc l)
 pub none_some : {A : Type 0} (x : A) (o : Option A) → o ≡ None → o ≡ Some x → ⊥
 none_some x None p q = cc
 none_some x (Some y) p q = cc
+
+-- one number more
+pub any_below_next : (f : ℕ → Bool) (n : ℕ) → any_below f (n + 1) ≡ (f n || any_below f n)
+any_below_next f n = rw (add-one n) refl
+
+pub none_below_next : (f : ℕ → Bool) (n : ℕ) → any_below f n ≡ false → f n ≡ false → any_below f (n + 1) ≡ false
+none_below_next f n h k = rw (any_below_next f n, k, h) refl

@@ -1,0 +1,145 @@
+//! Tests of the scope rules on one instruction, by the tags before it.
+ghost use Rattle.std.specs.Prelude.{◌≡◌, ◌<◌, ◌≤◌, ◌&&◌, nat_le, Some};
+ghost use Rattle.flow_model.specs.Scope as spec;
+ghost use Rattle.flow_model.specs.Changes.{tag_in};
+
+use crate::act::Act;
+use crate::passes::{is_lock_call, is_slot, receiver_tag, tag_in};
+use app_model::{Args, LockUse, Tag};
+use ns_base::LockNo;
+
+/// Whether a lock goes where it is not followed: into a call, another field, or a lock field that does
+/// not take it.
+pub fn is_escape(act: Act, row: &[Tag]) -> bool
+    ensures { result ≡ spec.is_escape (Some act) row.now }
+{
+    match act {
+        Act::Call { usage, args, .. } => call_escapes(is_lock_call(usage), row, &args),
+        Act::WriteStatic { from, slot } => write_escapes(slot, tag_in(row, from)),
+        _ => false,
+    }
+}
+
+/// Whether a call of a lock's method has an unknown form, or a receiver that is no lock.
+pub fn is_wrong_call(act: Act, row: &[Tag]) -> bool
+    ensures { result ≡ spec.is_wrong_call (Some act) row.now }
+{
+    match act {
+        Act::Call {
+            usage: LockUse::Wrong,
+            ..
+        } => true,
+        Act::Call { usage, args, .. } => {
+            is_lock_call(usage) && is_no_lock(receiver_tag(row, &args))
+        }
+        _ => false,
+    }
+}
+
+/// Whether a new lock is stored into a lock field.
+pub fn stores_new(lock: LockNo, act: Act, row: &[Tag]) -> bool
+    ensures { result ≡ spec.stores_new lock.0 (Some act) row.now }
+{
+    match act {
+        Act::WriteStatic { from, slot } => is_slot(lock, slot) && is_new(tag_in(row, from)),
+        _ => false,
+    }
+}
+
+fn call_escapes(on_lock: bool, row: &[Tag], args: &Args) -> bool
+    ensures { result ≡ spec.call_escapes on_lock row.now args.now }
+{
+    if on_lock {
+        escapes_as_receiver(receiver_tag(row, args)) || passes_lock(row, args, 1)
+    } else {
+        passes_lock(row, args, 0)
+    }
+}
+
+// Whether an argument of that number or a later one may be a lock.
+fn passes_lock(row: &[Tag], args: &Args, from: u32) -> bool
+    ensures { result ≡ spec.passes_lock row.now args.now from }
+{
+    for k in 0..arg_count(args) {
+        if is_lock_argument(row, args, from, k) {
+            return true;
+        }
+    }
+    false
+}
+
+fn is_lock_argument(row: &[Tag], args: &Args, from: u32, k: u32) -> bool
+    ensures { result ≡ (nat_le from k && spec.may_be_lock (tag_in row.now (spec.arg_at args.now k))) }
+{
+    from <= k && may_be_lock(argument_tag(row, args, k))
+}
+
+fn arg_count(args: &Args) -> u32
+    ensures { result ≡ spec.arg_count args.now }
+{
+    match args {
+        Args::List { count, .. } => u32::from(*count),
+        Args::Range { count, .. } => *count,
+    }
+}
+
+// The tag of an argument.
+fn argument_tag(row: &[Tag], args: &Args, k: u32) -> Tag
+    ensures { result ≡ tag_in row.now (spec.arg_at args.now k) }
+{
+    match args {
+        Args::List { registers, .. } => match registers.get(k as usize) {
+            Some(register) => tag_in(row, *register),
+            None => tag_in(row, 0),
+        },
+        Args::Range { first, .. } => match row.get(*first as usize + k as usize) {
+            Some(tag) => *tag,
+            None => Tag::Bot,
+        },
+    }
+}
+
+fn write_escapes(slot: Option<LockNo>, stored: Tag) -> bool
+    ensures { result ≡ spec.write_escapes slot stored }
+{
+    match slot {
+        None => may_be_lock(stored),
+        Some(_) => !may_be_stored(stored),
+    }
+}
+
+fn may_be_lock(tag: Tag) -> bool
+    ensures { result ≡ spec.may_be_lock tag }
+{
+    match tag {
+        Tag::Field(_) | Tag::New(_) | Tag::Mixed => true,
+        Tag::Bot | Tag::Zero | Tag::Solid | Tag::Held(_) | Tag::Any => false,
+    }
+}
+
+fn may_be_stored(tag: Tag) -> bool
+    ensures { result ≡ spec.may_be_stored tag }
+{
+    match tag {
+        Tag::Bot | Tag::Zero | Tag::New(_) => true,
+        Tag::Solid | Tag::Held(_) | Tag::Any | Tag::Field(_) | Tag::Mixed => false,
+    }
+}
+
+fn escapes_as_receiver(tag: Tag) -> bool
+    ensures { result ≡ spec.escapes_as_receiver tag }
+{
+    matches!(tag, Tag::New(_) | Tag::Mixed)
+}
+
+fn is_no_lock(tag: Tag) -> bool
+    ensures { result ≡ spec.is_no_lock tag }
+{
+    matches!(tag, Tag::Solid | Tag::Any | Tag::Held(_))
+}
+
+fn is_new(tag: Tag) -> bool
+    ensures { result ≡ spec.is_new tag }
+{
+    matches!(tag, Tag::New(_))
+}
