@@ -1,6 +1,6 @@
 //! The columns of the status table, a mask for each status before the operation.
 
-/// Where the status stays.
+/// The mask of each status alone.
 pub const ONLY: [u8; 8] = [0x01, 0x02, 0x04, 0x08, 0x10, 0x20, 0x40, 0x80];
 
 pub const ACQUIRE_PASSES: [u8; 8] = [0x00, 0x04, 0x08, 0x10, 0x10, 0x40, 0x40, 0x80];
