@@ -1,3 +1,5 @@
 pub mod Plain
 pub mod Closed
 pub mod Found
+pub mod Supertypes
+pub mod Rounds

@@ -1,5 +1,6 @@
 -- The scope rules of threads, escapes, lock calls and two stores, along the path of method 0.
-use Rattle.std.specs.Prelude.{ℕ, ◌≡◌, ◌⊎◌, ◌<◌, Bool, true, false, List, [], ◌∷◌, Contains, Option, Some, codes}
+use Rattle.std.specs.Prelude.{ℕ, ◌≡◌, ◌⊎◌, ◌<◌, Bool, true, false, List, [], ◌∷◌, bytes_eq, Option, Some, codes}
+use Rattle.std.specs.List.{list_any}
 use Rattle.app_model.specs.declared.rows.Named.{Named}
 use Rattle.app_model.specs.Parts.{AppParts}
 use Rattle.app_model.specs.Words.{code_len, named_at}
@@ -18,9 +19,12 @@ thread_names =
     ∷ codes "Ljava/util/concurrent/ExecutorService;" ∷ codes "Ljava/util/concurrent/ThreadPoolExecutor;"
     ∷ codes "Landroid/os/AsyncTask;" ∷ codes "Landroid/os/HandlerThread;" ∷ codes "Landroid/app/IntentService;" ∷ []
 
+unfoldable pub is_thread_name : List ℕ → Bool
+is_thread_name name = list_any (bytes_eq name) thread_names
+
 -- a type of this name is or inherits a thread type
 abbrev pub IsThread : AppParts → List ℕ → Type 0
-IsThread app name = (thread : List ℕ) × Contains thread_names thread × IsSubtype app name thread
+IsThread app name = (thread : List ℕ) × (is_thread_name thread ≡ true) × IsSubtype app name thread
 
 -- a call that is not static, of a method of a thread or of Executors
 abbrev pub IsThreadCall : AppParts → Option Act → Option Named → Type 0
@@ -28,8 +32,8 @@ IsThreadCall app (Some (Call usage arguments gives)) (Some named) =
     IsThread app (type_text app named.class.0) ⊎ (type_text app named.class.0 ≡ codes "Ljava/util/concurrent/Executors;")
 IsThreadCall app act named = ⊥
 
-abbrev pub stores_new_at : AppParts → ℕ → ℕ → Bool
-stores_new_at app l i = stores_new l (act_at app 0 i) (row_before app 0 i)
+abbrev pub stores_new_at : AppParts → ℕ → Bool
+stores_new_at app i = stores_new 0 (act_at app 0 i) (row_before app 0 i)
 
 -- no rule of threads, escapes and lock calls is broken at instruction i
 pub record IsAllowed (app : AppParts) (i : ℕ) : Type 0 where
@@ -37,7 +41,7 @@ pub record IsAllowed (app : AppParts) (i : ℕ) : Type 0 where
   pub escape : is_escape (act_at app 0 i) (row_before app 0 i) ≡ false
   pub call : is_wrong_call (act_at app 0 i) (row_before app 0 i) ≡ false
 
--- and no field gets a new lock at two places
+-- and the field does not get a new lock at two places
 pub record IsInScope (app : AppParts) : Type 0 where
   pub each : (i : ℕ) → i < code_len app 0 → IsAllowed app i
-  pub once : (l i j : ℕ) → i < j → j < code_len app 0 → stores_new_at app l i ≡ true → stores_new_at app l j ≡ true → ⊥
+  pub once : (i j : ℕ) → i < j → j < code_len app 0 → stores_new_at app i ≡ true → stores_new_at app j ≡ true → ⊥

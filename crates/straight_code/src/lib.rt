@@ -7,6 +7,8 @@
 #![tactic(auto)]
 
 mod body;
+mod threads;
+mod views;
 
 
 
