@@ -5,6 +5,7 @@
 //! - `body` has the places of a method's code: each instruction with where control can go from it.
 //! - `opcode` names the opcodes.
 //! - `rows` and `app` are the linked application, read through accessors.
+//! - `names` spells types, names and prototypes.
 //! - `lock_use` and `slots` tell calls and fields of wake locks apart from others.
 //! - `component` has the components and their lifecycles.
 //! - `tag` is what is known of a register's value.
