@@ -1,7 +1,9 @@
 -- Rounds of steps, and what they reach.
-use Rattle.std.proofs.Common.{◌≡◌, ◌⊎◌, ◌≤◌, ℕ, Bool, true, List, bit_or, slice_index, inl, inr, ⊎_elim, arith}
+use Rattle.std.proofs.Common.{◌≡◌, ℕ, zero, suc, refl, sym, subst, Bool, true, List, bit_or, slice_index, inl, inr, ⊎_elim, arith}
+use Rattle.std.proofs.lemmas.Nat.{le_or_l}
+use Rattle.std.proofs.lemmas.Nat.Bits.{bit_at_above}
 use Rattle.flow_model.specs.Masks.{in_mask, IsImage}
-use Rattle.flow_model.proofs.MaskLaws.{IsIn-or, IsIn-or_left, IsIn-or_right}
+use Rattle.flow_model.proofs.MaskLaws.{IsIn-bit, IsIn-or, IsIn-or_left, IsIn-or_right}
 use Rattle.straight_code.specs.Reached.{IsReached, at_start, by_step, IsRound, steps_of}
 
 pub round_of : (masks : List ℕ) (views image : ℕ) → IsImage (slice_index masks) views image → IsRound (steps_of masks) views (bit_or views image)
@@ -9,7 +11,7 @@ round_of masks views image is = record {
   kept = λ s h. IsIn-or_left views image s h;
   there = λ s t h k. IsIn-or_right views image t (is.there s t h k);
   only = λ t h. ⊎_elim (λ l. inl l) (λ r. inr (is.only t r)) (IsIn-or views image t h);
-  grows = ?;
+  grows = le_or_l views image;
 }
 
 -- all statuses of a mask are reached
@@ -23,3 +25,10 @@ round_reached step old new r all t h = ⊎_elim (λ o. all t o) (λ o. by_step (
 pub has_reached : (step : ℕ → ℕ → Bool) (views : ℕ) → IsRound step views views → in_mask views 0 ≡ true → (s : ℕ) → IsReached step s → in_mask views s ≡ true
 has_reached step views r start s at_start = start
 has_reached step views r start t (by_step {s = s} d h) = r.there s t (has_reached step views r start s d) h
+
+only_first : (s : ℕ) → in_mask 1 s ≡ true → s ≡ 0
+only_first zero h = refl
+only_first (suc s) h = absurd (omega (arith, bit_at_above 1 1 (suc s) (omega arith) (omega arith), IsIn-bit 1 (suc s) h))
+
+pub first_reached : (step : ℕ → ℕ → Bool) → AllReached step 1
+first_reached step s h = subst (λ n. IsReached step n) (sym (only_first s h)) at_start

@@ -1,5 +1,5 @@
 -- Threads in an application of one class.
-use Rattle.std.proofs.Common.{◌≡◌, ◌⊎◌, ◌<◌, ℕ, zero, suc, true, List, [], ◌∷◌, length, Contains, Some, refl, sym, ◌∙◌, subst, inl, inr, ⊎_elim, arith}
+use Rattle.std.proofs.Common.{◌≡◌, ◌⊎◌, ◌<◌, ℕ, zero, suc, true, List, [], ◌∷◌, Contains, Some, refl, sym, ◌∙◌, subst, inl, inr, ⊎_elim, arith}
 use Rattle.std.specs.Prelude.{slice_index_or}
 use Rattle.ns_base.specs.declared.rows.TypeNo.{TypeNo}
 use Rattle.app_model.specs.Parts.{AppParts, ClassParts}
@@ -11,9 +11,9 @@ use Rattle.straight_code.specs.Verdict.{IsSmallApp}
 only_one : {A : Type 0} (x y : A) → Contains (x ∷ []) y → x ≡ y
 only_one x y c = at c.0 c.1 c.2
   where
-  at : (k : ℕ) → k < 1 → slice_index_or (x ∷ []) k y ≡ y → x ≡ y
-  at zero l h = h
-  at (suc k) l h = absurd (omega arith)
+    at : (k : ℕ) → k < 1 → slice_index_or (x ∷ []) k y ≡ y → x ≡ y
+    at zero l h = h
+    at (suc k) l h = absurd (omega arith)
 
 none_in : {A : Type 0} (y : A) → Contains [] y → ⊥
 none_in y c = omega (arith, c.1)
@@ -31,8 +31,8 @@ module _ (app : AppParts) (small : IsSmallApp app) where
   the_parent : (class : ClassParts) (parent : TypeNo) → Contains app.classes class → class.parent ≡ Some parent → small.parent ≡ parent
   the_parent class parent c p = inner (sym small.has_parent ∙ subst (λ (z : ClassParts). z.parent ≡ Some parent) (sym (the_class class c)) p)
     where
-    inner : Some small.parent ≡ Some parent → small.parent ≡ parent
-    inner e = cc
+      inner : Some small.parent ≡ Some parent → small.parent ≡ parent
+      inner e = cc
 
   supertypes : {a b : List ℕ} → IsSubtype app a b → (a ≡ b) ⊎ ((a ≡ own) × (b ≡ above))
   supertypes the_same = inl refl

@@ -6,8 +6,7 @@ ghost use Rattle.app_model.specs.Slots.{slot_at};
 ghost use Rattle.straight_code.specs.Body as spec;
 ghost use Rattle.straight_code.specs.Body.{IsPlainBody, IsPlainPlace};
 
-use app_model::opcode;
-use app_model::{App, Ins, LockUse, Named};
+use app_model::{App, Ins, LockUse, Named, opcode};
 use ns_base::{LockNo, MethodNo};
 
 /// The one method.
@@ -114,7 +113,8 @@ fn is_plain_call(app: &App, index: u32) -> bool
     requires index { index < code_len app.now 0 }
     ensures { result ≡ (spec.is_make (lock_use_at app.now 0 index) || spec.is_plain_named app.now (named_at app.now 0 index)) }
 {
-    matches!(app.lock_use(CALLBACK, index), LockUse::Make) || is_plain_name(app, app.named(CALLBACK, index))
+    matches!(app.lock_use(CALLBACK, index), LockUse::Make)
+        || is_plain_name(app, app.named(CALLBACK, index))
 }
 
 fn is_plain_name(app: &App, named: Option<Named>) -> bool
@@ -144,5 +144,6 @@ fn is_plain_lock_call(app: &App, named: Named) -> bool
     ensures { result ≡ spec.is_plain_lock_call app.now named }
 {
     app.is_on(named, b"Landroid/os/PowerManager$WakeLock;")
-        && (app.is_method(named, b"acquire", b"V", &[]) || app.is_method(named, b"release", b"V", &[]))
+        && (app.is_method(named, b"acquire", b"V", &[])
+            || app.is_method(named, b"release", b"V", &[]))
 }

@@ -9,9 +9,3 @@
 mod body;
 mod threads;
 mod views;
-
-
-
-
-
-

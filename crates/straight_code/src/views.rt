@@ -23,6 +23,7 @@ pub fn reach(masks: &[u8; 8]) -> u8
 }
 
 // The statuses with those to which a callback leads from them.
+#[tactic(auto, using(crate::proofs::Rounds::round_of))]
 fn next_round(masks: &[u8; 8], views: u8) -> u8
     ensures { IsRound (steps_of masks.now) views result }
 {

@@ -1,4 +1,4 @@
-use Rattle.std.proofs.Common.{rules, ◌≡◌, ⊎_elim, true, false, sym, ◌∙◌, true≢false}
+use Rattle.std.proofs.Common.{◌≡◌, ⊎_elim, false, sym, ◌∙◌, true≢false}
 use Rattle.straight_code.specs.Scope as spec
 use Rattle.straight_code.proofs.Supertypes.{thread_above, thread_by}
 use Rattle.straight_code.proofs.threads.is_thread.Goals as goal
