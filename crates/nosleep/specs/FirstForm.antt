@@ -1,9 +1,21 @@
--- The first form of an application: one receiver class with one static wake lock, whose onReceive only returns.
-use Rattle.std.specs.Prelude.{◌≡◌, ◌≢◌, ◌<◌, ◌≤◌, ℕ, List, [], ◌∷◌, length, slice_index, codes, bit_and, None}
+-- The first form of an application: one receiver class with one static wake lock and one callback.
+use Rattle.std.specs.Prelude.{◌≡◌, ◌≢◌, ◌<◌, ◌≤◌, ℕ, List, [], ◌∷◌, length, map, slice_index, codes, bit_and, Some, None, Ok}
+use Rattle.std.specs.List.{range_with_len}
+use Rattle.ns_base.specs.declared.rows.TypeNo.{TypeNo}
+use Rattle.app_model.specs.declared.body.Place.{Place}
+use Rattle.app_model.specs.declared.ins.Ins.{Ins}
+use Rattle.app_model.specs.declared.ins.Ins.TheVariants as ins
+use Rattle.app_model.specs.declared.rows.MethodRow.{MethodRow}
+use Rattle.app_model.specs.declared.rows.FieldRow.{FieldRow}
+use Rattle.app_model.specs.declared.rows.Operand.{Operand}
+use Rattle.app_model.specs.declared.rows.Operand.TheVariants.{Plain, Invoke, Access}
+use Rattle.app_model.specs.Body.{BodyRows}
+use Rattle.app_model.specs.Parts.{AppParts, ClassParts, ProtoParts}
+use Rattle.method_graph.specs.Graph.{graph_of}
 use Rattle.ns_base.specs.Answers.{limit_of}
 use Rattle.ns_base.specs.declared.answers.Counted.TheVariants.{FileBytes}
 use Rattle.dex_bytes.specs.Header.{front_fault_of}
-use Rattle.dex_tables.specs.Rows.{string_count, class_count, field_count, method_count, string_text, type_name, proto_result, proto_params, field_class, field_type, method_class, method_proto, method_name, class_type, class_parent, no_parent, class_interfaces, list_size, list_entry}
+use Rattle.dex_tables.specs.Rows.{string_count, type_count, class_count, field_count, method_count, string_text, type_name, proto_result, proto_params, field_class, field_type, field_name, method_class, method_proto, method_name, class_type, class_flags, class_parent, no_parent, class_interfaces, list_size, list_entry}
 use Rattle.dex_tables.specs.Content.{IdTables, AreTablesOf}
 use Rattle.dex_code.specs.declared.members.Member.{Member}
 use Rattle.dex_code.specs.Content.{MemberLists, AreMembersOf, CodeContent, IsCodeOf}
@@ -66,18 +78,13 @@ pub record IsCallback (bs class : List ℕ) (m flags : ℕ) : Type 0 where
   pub proto : IsReceiverProto bs (method_proto bs m)
   pub flags_free : bit_and flags 1288 ≡ 0
 
--- code with three argument registers, no tries and the one instruction return-void
-pub record IsReturnOnly (code : CodeContent) : Type 0 where
+-- at an offset other than 0 stands code with three argument registers and no tries, and it has this control flow
+pub record HasBody (bs : List ℕ) (callback : Member) (code : CodeContent) (body : BodyRows) : Type 0 where
+  pub there : callback.code ≢ 0
+  pub stands : IsCodeOf bs callback.code code
   pub ins : code.ins ≡ 3
   pub tries : code.tries ≡ []
-  pub units : code.units ≡ 14 ∷ []
-
--- at an offset other than 0 stands such code
-pub record HasReturnOnly (bs : List ℕ) (p : ℕ) : Type 0 where
-  pub there : p ≢ 0
-  pub code : CodeContent
-  pub stands : IsCodeOf bs p code
-  pub returns : IsReturnOnly code
+  pub graph : graph_of bs callback.id callback.flags code ≡ Ok body
 
 -- one static field and one virtual method
 pub record HasTwoMembers (members : MemberLists) (lock callback : Member) : Type 0 where
@@ -86,34 +93,88 @@ pub record HasTwoMembers (members : MemberLists) (lock callback : Member) : Type
   pub directs : members.directs ≡ []
   pub virtuals : members.virtuals ≡ callback ∷ []
 
--- a field that is the wake lock, and a method that is the callback, whose code only returns
-pub record IsReceiverPair (bs class : List ℕ) (lock callback : Member) : Type 0 where
-  pub is_lock : IsLockField bs class lock.id
-  pub is_callback : IsCallback bs class callback.id callback.flags
-  pub body : HasReturnOnly bs callback.code
+-- ---- the application of such a file: types, names and prototypes are numbered by their rows
+abbrev pub type_no : ℕ → TypeNo
+type_no t = record { 0 = t }
 
--- the members of the first class are such a pair
-pub record HasReceiverMembers (bs class : List ℕ) : Type 0 where
-  pub members : MemberLists
-  pub lock : Member
-  pub callback : Member
-  pub stand : AreMembersOf bs 0 members
-  pub two : HasTwoMembers members lock callback
-  pub pair : IsReceiverPair bs class lock callback
+abbrev pub params_of : List ℕ → ℕ → List TypeNo
+params_of bs off = map (λ k. type_no (list_entry bs off k)) (range_with_len 0 (list_size bs off))
 
--- the file has one class, a receiver of this name
-pub record IsOnlyClass (bs class : List ℕ) : Type 0 where
+abbrev pub proto_parts : List ℕ → ℕ → ProtoParts
+proto_parts bs p = record { result = type_no (proto_result bs p); params = params_of bs (proto_params bs p) }
+
+abbrev pub class_parts : List ℕ → ClassParts
+class_parts bs = record { name = type_no (class_type bs 0); parent = Some (type_no (class_parent bs 0)); interfaces = []; flags = class_flags bs 0 }
+
+abbrev pub method_parts : List ℕ → Member → CodeContent → MethodRow
+method_parts bs m code = record {
+  class = record { 0 = 0 };
+  name = record { 0 = method_name bs m.id };
+  proto = record { 0 = method_proto bs m.id };
+  flags = m.flags;
+  registers = code.registers;
+  ins = code.ins;
+}
+
+abbrev pub field_parts : List ℕ → Member → FieldRow
+field_parts bs f = record {
+  class = record { 0 = 0 };
+  name = record { 0 = field_name bs f.id };
+  kind = type_no (field_type bs f.id);
+  flags = f.flags;
+}
+
+-- what an instruction names
+abbrev pub named_method : List ℕ → ℕ → Operand
+named_method bs m = Invoke (record { class = type_no (method_class bs m); name = record { 0 = method_name bs m }; proto = record { 0 = method_proto bs m } })
+
+abbrev pub named_field : List ℕ → ℕ → Operand
+named_field bs f = Access (record { class = type_no (field_class bs f); name = record { 0 = field_name bs f }; kind = type_no (field_type bs f) })
+
+unfoldable pub operand_of : List ℕ → Ins → Operand
+operand_of bs (ins.Invoke op method arguments) = named_method bs method
+operand_of bs (ins.FieldGet op to object field) = named_field bs field
+operand_of bs (ins.FieldPut op value object field) = named_field bs field
+operand_of bs (ins.StaticGet op to field) = named_field bs field
+operand_of bs (ins.StaticPut op value field) = named_field bs field
+operand_of bs other = Plain
+
+abbrev pub operands_of : List ℕ → BodyRows → List Operand
+operands_of bs body = map (λ (place : Place). operand_of bs place.ins) body.places
+
+-- its one lock field is field 0, its one method the callback
+unfoldable pub app_of : List ℕ → (lock callback : Member) → CodeContent → BodyRows → AppParts
+app_of bs lock callback code body = record {
+  types = map (type_name bs) (range_with_len 0 (type_count bs));
+  names = map (string_text bs) (range_with_len 0 (string_count bs));
+  protos = map (proto_parts bs) (range_with_len 0 (proto_count bs));
+  classes = class_parts bs ∷ [];
+  methods = method_parts bs callback code ∷ [];
+  fields = field_parts bs lock ∷ [];
+  locks = record { 0 = 0 } ∷ [];
+  code = body ∷ [];
+  operands = operands_of bs body ∷ [];
+}
+
+-- the class of the file is a receiver of this name with one lock and one callback
+pub record IsReceiverClass (bs class : List ℕ) (lock callback : Member) : Type 0 where
   pub one_class : class_count bs ≡ 1
   pub receiver : IsReceiverRow bs class
-  pub members : HasReceiverMembers bs class
+  pub members : MemberLists
+  pub stand : AreMembersOf bs 0 members
+  pub two : HasTwoMembers members lock callback
+  pub is_lock : IsLockField bs class lock.id
+  pub is_callback : IsCallback bs class callback.id callback.flags
 
--- the bytes are of the first form for a class name; the header's two sums are not looked at
-pub record IsFirstForm (bs class : List ℕ) : Type 0 where
+-- the bytes have one receiver of this name, and this is their application; the header's two sums are not looked at
+pub record IsReceiverApp (bs class : List ℕ) (app : AppParts) : Type 0 where
   pub header : front_fault_of bs ≡ None
   pub tables : HasTables bs
   pub plain : ArePlainStrings bs
-  pub only : IsOnlyClass bs class
-
--- the file can be judged: within the limit, and of the first form
-abbrev pub IsJudged : List ℕ → List ℕ → Type 0
-IsJudged bs class = (length bs ≤ limit_of FileBytes) × IsFirstForm bs class
+  pub lock : Member
+  pub callback : Member
+  pub is_class : IsReceiverClass bs class lock callback
+  pub code : CodeContent
+  pub body : BodyRows
+  pub has_body : HasBody bs callback code body
+  pub is : app ≡ app_of bs lock callback code body
