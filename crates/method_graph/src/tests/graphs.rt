@@ -162,7 +162,7 @@ fn the_first_fault_of_code_is_named(rt: HostRuntime) {
         (&[0x0062, 1, 0x000e], Some(CodeFault::Operand(0, 1))),
         (&[0x0071, 7, 0, 0x000e], Some(CodeFault::Operand(0, 7))),
         (&[0x031a, 26, 0x003e], Some(CodeFault::Register(0, 3))),
-        // the parameters of method 6 take two registers, none and one
+        // the parameters of method 6 take two registers, none and one; a receiver takes one more
         (&[0x3071, 6, 0x0210, 0x000e], None),
         (
             &[0x0377, 6, 0, 0x2071, 6, 0x0010],
