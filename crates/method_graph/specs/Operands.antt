@@ -1,5 +1,7 @@
 -- What an instruction names in the id tables, and how many registers arguments take.
-use Rattle.std.specs.Prelude.{ℕ, ◌+◌, ◌==◌, nat_lt, ◌&&◌, ◌||◌, Bool, true, List, length, slice_index, if◌then◌else◌, Option, Some, None}
+use Rattle.std.specs.Prelude.{ℕ, ◌≡◌, ◌<◌, ◌^◌, ◌+◌, ◌==◌, nat_lt, ◌&&◌, ◌||◌, Bool, true, List, length, slice_index, if◌then◌else◌, Option, Some, None}
+use Rattle.std.specs.BTreeMap.{BTreeMap, get}
+use Rattle.std.specs.Ordering.{nat_cmp}
 use Rattle.app_model.specs.declared.ins.Ins.{Ins}
 use Rattle.app_model.specs.declared.ins.Ins.TheVariants as ins
 use Rattle.app_model.specs.declared.ins.Args.{Args}
@@ -54,7 +56,11 @@ param_words bs proto k = words_of (type_name bs (param_type bs proto k))
 unfoldable pub params_words : List ℕ → ℕ → ℕ
 params_words bs proto = sum_below (param_words bs proto) (list_size bs (proto_params bs proto))
 
--- and those of a method, with its receiver where it has one
+-- what is kept for a prototype is how many registers its parameters take
+abbrev pub AreSums : List ℕ → BTreeMap ℕ ℕ → Type 0
+AreSums bs sums = (proto words : ℕ) → get nat_cmp sums proto ≡ Some words → (words ≡ params_words bs proto) × (words < 2 ^ 34)
+
+-- how many registers the arguments of a method take, with its receiver where it has one
 abbrev pub argument_words : List ℕ → Bool → ℕ → ℕ
 argument_words bs static method = (if static then 0 else 1) + params_words bs (method_proto bs method)
 

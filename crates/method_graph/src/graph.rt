@@ -8,11 +8,12 @@ ghost use Rattle.method_graph.specs.Exact.{IsExact, IsPutBehind};
 ghost use Rattle.dalvik_decode.specs.declared.faults.CodeFault.TheVariants.{Memory};
 ghost use Rattle.method_graph.specs.Graph.{IsCodeIn, body_of, graph_by, graph_of, is_static, pc_of, place_at, places_of, with_target};
 ghost use Rattle.method_graph.specs.declared.sweep.Row.{Row};
+ghost use Rattle.method_graph.specs.Operands.{AreSums};
 ghost use Rattle.method_graph.specs.Sweep.{IsSweep};
 ghost use Rattle.method_graph.specs.Tries.{AreTries, IsPast, bad_target, try_at};
 
 use crate::flow::find_successors;
-use crate::operands::{arguments_from, fits_args, past_operand};
+use crate::operands::{Sums, find_arguments, fits_args, past_operand};
 use crate::registers::past_named;
 use crate::sweep::{Found, Piece, Row, Sweep, sweep_units};
 use crate::tries::{advance, find_bad_target, find_handlers, find_try, leaves_from, take_handlers};
@@ -33,6 +34,7 @@ fn make_place(
     tables: &Tables,
     code: &CodeItem,
     sweep: &Sweep,
+    sums: &mut Sums,
     row: Option<TryRow>,
     pc: u32,
     next: u32,
@@ -42,7 +44,9 @@ fn make_place(
     requires tries { AreTries bytes.now code.now.tries code.now.handlers }
     requires units { sweep.now.units ≡ length code.now.units }
     requires covered { row ≡ try_at code.now.tries pc }
-    ensures { IsExact result (place_at bytes.now code.now sweep.now.rows pc next ins) }
+    requires sums { AreSums bytes.now sums.old }
+    ensures place { IsExact result (place_at bytes.now code.now sweep.now.rows pc next ins) }
+    ensures sums { AreSums bytes.now sums.new }
 {
     if let Some(register) = past_named(code.registers, ins) {
         return Err(CodeFault::Register(pc, register));
@@ -50,7 +54,7 @@ fn make_place(
     if let Some(index) = past_operand(bytes, tables, ins) {
         return Err(CodeFault::Operand(pc, index));
     }
-    if !fits_args(bytes, tables, ins) {
+    if !fits_args(bytes, tables, sums, ins)? {
         return Err(CodeFault::ArgCount(pc));
     }
     let successors = find_successors(alloc, code.units.as_slice(), sweep, pc, next, ins)?;
@@ -80,6 +84,7 @@ fn put_row(
     tables: &Tables,
     code: &CodeItem,
     sweep: &Sweep,
+    sums: &mut Sums,
     covering: Option<TryRow>,
     row: Row,
     places: &mut Vec<Place>,
@@ -88,12 +93,14 @@ fn put_row(
     requires tries { AreTries bytes.now code.now.tries code.now.handlers }
     requires units { sweep.now.units ≡ length code.now.units }
     requires covered { covering ≡ try_at code.now.tries row.pc }
-    ensures { IsPutBehind result places.old.items places.new.items (places_of bytes.now code.now sweep.now.rows (row ∷ [])) }
+    requires sums { AreSums bytes.now sums.old }
+    ensures put { IsPutBehind result places.old.items places.new.items (places_of bytes.now code.now sweep.now.rows (row ∷ [])) }
+    ensures sums { AreSums bytes.now sums.new }
 {
     match row.piece {
         Piece::Whole { ins, next } => {
             let place = make_place(
-                alloc, bytes, tables, code, sweep, covering, row.pc, next, ins,
+                alloc, bytes, tables, code, sweep, sums, covering, row.pc, next, ins,
             )?;
             push_place(places, place)?;
             Ok(())
@@ -117,11 +124,13 @@ fn make_places(
     tables: &Tables,
     code: &CodeItem,
     sweep: &Sweep,
+    sums: &mut Sums,
 ) -> Result<Vec<Place>, CodeFault>
     requires tables { AreTablesOf bytes.now tables.now }
     requires tries { AreTries bytes.now code.now.tries code.now.handlers }
     requires units { sweep.now.units ≡ length code.now.units }
     requires rising { AllPairs (λ a b. a.pc < b.pc) sweep.now.rows }
+    requires sums { AreSums bytes.now sums.old }
     ensures places { IfOk result (λ places. places_of bytes.now code.now sweep.now.rows sweep.now.rows ≡ Ok places.items) }
     ensures fault { IfErr result (λ fault. fault ≢ Memory → places_of bytes.now code.now sweep.now.rows sweep.now.rows ≡ Err fault) }
 {
@@ -138,6 +147,7 @@ fn make_places(
             tables,
             code,
             sweep,
+            sums,
             covering,
             row,
             &mut places,
@@ -182,16 +192,18 @@ fn make_body(
     tables: &Tables,
     code: &CodeItem,
     sweep: &Sweep,
+    sums: &mut Sums,
 ) -> Result<Body, CodeFault>
     requires tables { AreTablesOf bytes.now tables.now }
     requires tries { AreTries bytes.now code.now.tries code.now.handlers }
     requires sweep { IsSweep sweep.now code.now.units }
     requires size { length code.now.units ≤ 4194304 }
     requires handlers { length code.now.handlers ≤ 4194304 }
+    requires sums { AreSums bytes.now sums.old }
     ensures { IsExact result (body_of code.now.registers (with_target (bad_target sweep.now.rows None code.now.handlers) (places_of bytes.now code.now sweep.now.rows sweep.now.rows))) }
 {
     let target = find_bad_target(sweep, code.handlers.as_slice());
-    let places = match make_places(alloc, bytes, tables, code, sweep) {
+    let places = match make_places(alloc, bytes, tables, code, sweep, sums) {
         Ok(places) => places,
         Err(fault) => return Err(first_fault(target, fault)),
     };
@@ -218,12 +230,14 @@ pub fn build_graph(
     requires row { method < method_count bytes.now }
     ensures { IsExact result (graph_of bytes.now method flags code.now) }
 {
-    if code.ins as u64 != arguments_from(bytes, tables, flags & STATIC != 0, method) {
+    let mut sums = Sums::new(alloc);
+    let arguments = find_arguments(bytes, tables, &mut sums, flags & STATIC != 0, method)?;
+    if code.ins as u64 != arguments {
         return Err(CodeFault::InsSize);
     }
     let sweep = sweep_units(alloc, code.units.as_slice())?;
     let Found::Start(_) = sweep.find(0) else {
         return Err(CodeFault::FallsOff(0));
     };
-    make_body(alloc, bytes, tables, code, &sweep)
+    make_body(alloc, bytes, tables, code, &sweep, &mut sums)
 }

@@ -1,12 +1,17 @@
 //! What an instruction names in the id tables.
-ghost use Rattle.std.specs.Prelude.{◌≡◌, ◌<◌, ◌≤◌, ◌*◌, ◌^◌, None};
+ghost use Rattle.std.specs.Prelude.{◌≡◌, ◌<◌, ◌≤◌, ◌*◌, ◌^◌, None, IfOk};
 ghost use Rattle.dex_tables.specs.Content.{AreTablesOf};
 ghost use Rattle.dex_tables.specs.Rows.{list_size, list_entry, method_count, method_proto, proto_count, proto_params, type_count, type_name};
-ghost use Rattle.method_graph.specs.Operands.{args_len, argument_words, has_its_args, is_static_call, named_of, param_type, param_words, params_words, past_table, unless_below, words_of};
+ghost use Rattle.method_graph.specs.Operands.{AreSums, args_len, argument_words, has_its_args, is_static_call, named_of, param_type, param_words, params_words, past_table, unless_below, words_of};
 
 use app_model::{Args, Ins};
 use app_model::opcode;
 use dex_tables::{Tables, string_bytes};
+use std::alloc::AllocError;
+use std::collections::BTreeMap;
+
+/// For some prototypes, how many registers their parameters take.
+pub type Sums = BTreeMap<u32, u64>;
 
 /// A row of a table that an instruction names.
 #[derive(Clone, Copy)]
@@ -122,14 +127,46 @@ fn params_from(bytes: &[u8], tables: &Tables, proto: u32) -> u64
     words
 }
 
+/// The registers that the parameters of a prototype take. They are summed once for a prototype, so that a
+/// long list of parameters is not gone over at each call.
+fn find_params(
+    bytes: &[u8],
+    tables: &Tables,
+    sums: &mut Sums,
+    proto: u32,
+) -> Result<u64, AllocError>
+    requires tables { AreTablesOf bytes.now tables.now }
+    requires row { proto < proto_count bytes.now }
+    requires sums { AreSums bytes.now sums.old }
+    ensures words { IfOk result (λ words. words ≡ params_words bytes.now proto) }
+    ensures bound { IfOk result (λ words. words < 2 ^ 34) }
+    ensures sums { AreSums bytes.now sums.new }
+{
+    if let Some(words) = sums.get(&proto) {
+        return Ok(*words);
+    }
+    let words = params_from(bytes, tables, proto);
+    sums.insert(proto, words)?;
+    Ok(words)
+}
+
 /// The registers that the arguments of a method take.
-pub fn arguments_from(bytes: &[u8], tables: &Tables, is_static: bool, method: u32) -> u64
+pub fn find_arguments(
+    bytes: &[u8],
+    tables: &Tables,
+    sums: &mut Sums,
+    is_static: bool,
+    method: u32,
+) -> Result<u64, AllocError>
     requires tables { AreTablesOf bytes.now tables.now }
     requires row { method < method_count bytes.now }
-    ensures { result ≡ argument_words bytes.now is_static method }
+    requires sums { AreSums bytes.now sums.old }
+    ensures words { IfOk result (λ words. words ≡ argument_words bytes.now is_static method) }
+    ensures sums { AreSums bytes.now sums.new }
 {
-    let params = params_from(bytes, tables, tables.methods[method as usize].proto as u32);
-    if is_static { params } else { params + 1 }
+    let proto = tables.methods[method as usize].proto as u32;
+    let params = find_params(bytes, tables, sums, proto)?;
+    Ok(if is_static { params } else { params + 1 })
 }
 
 fn len_of(args: Args) -> u64
@@ -148,15 +185,23 @@ fn calls_static(op: u8) -> bool
 }
 
 /// Whether a call names as many registers as its arguments take.
-pub fn fits_args(bytes: &[u8], tables: &Tables, ins: Ins) -> bool
+pub fn fits_args(
+    bytes: &[u8],
+    tables: &Tables,
+    sums: &mut Sums,
+    ins: Ins,
+) -> Result<bool, AllocError>
     requires tables { AreTablesOf bytes.now tables.now }
     requires operand { past_table bytes.now (named_of ins) ≡ None }
-    ensures { result ≡ has_its_args bytes.now ins }
+    requires sums { AreSums bytes.now sums.old }
+    ensures fits { IfOk result (λ fits. fits ≡ has_its_args bytes.now ins) }
+    ensures sums { AreSums bytes.now sums.new }
 {
     match ins {
         Ins::Invoke { op, method, args } => {
-            len_of(args) == arguments_from(bytes, tables, calls_static(op), method)
+            let words = find_arguments(bytes, tables, sums, calls_static(op), method)?;
+            Ok(len_of(args) == words)
         }
-        _ => true,
+        _ => Ok(true),
     }
 }

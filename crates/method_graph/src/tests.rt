@@ -1,5 +1,8 @@
 ghost use Rattle.std.specs.Prelude.{◌<◌, ◌^◌, length};
 
+mod graphs;
+mod sample;
+
 use crate::flow::find_successors;
 use crate::registers::past_named;
 use crate::sweep::sweep_units;

@@ -14,14 +14,15 @@ returns-in_err-put_row-clause-fault c =
     ∙ ap (λ (r : Row). r ∷ drop (suc c.loop-k.k) c.rows-rows.result.now) (c.nth_row-row.ensures row) in
     rw (p.1, p.2) (λ ne.
     ap (λ (rows : List Row). places_of c.args.bytes.now c.args.code.now c.args.sweep.now.rows rows) (sym c.rows-rows.ensures)
-    ∙ row_err _ _ _ _ _ _ _ _ _ here c.loop-k.invariant.0 (c.in_err-put_row.ensures ne))
+    ∙ row_err _ _ _ _ _ _ _ _ _ here c.loop-k.invariant.0 (c.in_err-put_row.ensures.put ne))
 
 pub loop-k-preserved : goal.loop-k-preserved
 loop-k-preserved c =
     let row = c.nth_row-row.result in
     let here = drop-cons c.rows-rows.result.now c.loop-k.k row c.loop-k-test.true
     ∙ ap (λ (r : Row). r ∷ drop (suc c.loop-k.k) c.rows-rows.result.now) (c.nth_row-row.ensures row) in (
-      rw add-one (row_ok _ _ _ _ _ _ _ _ _ here c.loop-k.invariant.0 c.in_ok-put_row.ensures),
+      rw add-one (row_ok _ _ _ _ _ _ _ _ _ here c.loop-k.invariant.0 c.in_ok-put_row.ensures.put),
+      c.in_ok-put_row.ensures.sums,
       past_later c.args.code.now.tries c.advance-at.result c.rows-rows.result.now c.loop-k.k row row.pc (rw c.rows-rows.ensures c.requires.rising)
           (ap (λ (r : Row). r.pc) (c.nth_row-row.ensures row))
           (rw (c.as_slice.ensures.value, ap (λ (v : CodeContent). v.tries) c.code.view_is) at c.advance-at.ensures.past),
@@ -32,4 +33,4 @@ advance-at-requires-clause-past c =
     let row = c.nth_row-row.result in
     let same = ap (λ (r : Row). r.pc) (c.nth_row-row.ensures row) in
     rw (c.as_slice.ensures.value, ap (λ (v : CodeContent). v.tries) c.code.view_is)
-    (λ t d h. let before = c.loop-k.invariant.1 c.loop-k.k row (omega arith) c.loop-k-test.true t d h in omega arith)
+    (λ t d h. let before = c.loop-k.invariant.2 c.loop-k.k row (omega arith) c.loop-k-test.true t d h in omega arith)
