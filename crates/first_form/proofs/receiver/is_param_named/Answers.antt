@@ -1,7 +1,7 @@
 use Rattle.std.proofs.Common.{◌≡◌, arith, rules}
 use Rattle.dex_tables.specs.Rows.{list_entry, proto_params}
-use Rattle.nosleep.proofs.TypeLists.{list_entry-lt}
-use Rattle.nosleep.proofs.first_form.receiver.is_param_named.Goals as goal
+use Rattle.first_form.proofs.TypeLists.{list_entry-lt}
+use Rattle.first_form.proofs.receiver.is_param_named.Goals as goal
 
 pub is_named-requires-clause-row : goal.is_named-requires-clause-row
 is_named-requires-clause-row c =

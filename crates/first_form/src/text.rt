@@ -2,7 +2,7 @@
 ghost use Rattle.std.specs.Prelude.{◌≡◌, ◌<◌, ◌↔◌, ℕ, length, IsTrue, EachIndex, slice_index};
 ghost use Rattle.dex_tables.specs.Content.{AreTablesOf};
 ghost use Rattle.dex_tables.specs.Rows.{string_count, type_count, string_text, type_name};
-ghost use Rattle.nosleep.specs.FirstForm.{IsAsciiByte, IsPlainText, ArePlainStrings};
+ghost use Rattle.first_form.specs.FirstForm.{IsAsciiByte, IsPlainText, ArePlainStrings};
 
 use dex_bytes::header_from;
 use dex_tables::{Tables, string_bytes};

@@ -4,7 +4,7 @@ ghost use Rattle.dex_code.specs.declared.members.Member.{Member};
 ghost use Rattle.dex_code.specs.Content.{AreMembersOf};
 ghost use Rattle.dex_tables.specs.Content.{AreTablesOf};
 ghost use Rattle.dex_tables.specs.Rows.{class_count, class_data, type_count, type_name, proto_count, proto_params, list_size, list_entry};
-ghost use Rattle.nosleep.specs.FirstForm.{AreReceiverParams, IsOnlyClass, IsReceiverRow, HasTwoMembers, HasReceiverMembers, IsReceiverPair, HasReturnOnly, IsLockField, IsCallback, IsReceiverProto, IsReturnOnly};
+ghost use Rattle.first_form.specs.FirstForm.{AreReceiverParams, IsOnlyClass, IsReceiverRow, HasTwoMembers, HasReceiverMembers, IsReceiverPair, HasReturnOnly, IsLockField, IsCallback, IsReceiverProto, IsReturnOnly};
 
 use super::is_want_of_memory;
 use super::text::{is_named, is_text};

@@ -4,7 +4,7 @@ use Rattle.std.specs.Prelude.{◌↔◌, Bool, Result, Err, IfOk, IsTrue}
 use Rattle.dex_code.specs.declared.members.Member.{Member}
 use Rattle.dex_code.specs.Content.{MemberLists, AreMembersOf}
 use Rattle.dex_code.proofs.MembersLaw.{members_reads}
-use Rattle.nosleep.specs.FirstForm.{HasTwoMembers, IsReceiverPair, HasReceiverMembers}
+use Rattle.first_form.specs.FirstForm.{HasTwoMembers, IsReceiverPair, HasReceiverMembers}
 
 members_same : (bs : List ℕ) (m n : MemberLists) → AreMembersOf bs 0 m → AreMembersOf bs 0 n → m ≡ n
 members_same bs m n here there = let one = members_reads bs 0 m here in let other = members_reads bs 0 n there in cc

@@ -1,7 +1,7 @@
 use Rattle.std.proofs.Common.{◌≢◌}
 use Rattle.dex_bytes.specs.declared.fault.DexFault.TheVariants.{Memory}
 use Rattle.dex_tables.proofs.TableLaws.{is_reading}
-use Rattle.nosleep.proofs.first_form.is_first_form.Goals as goal
+use Rattle.first_form.proofs.is_first_form.Goals as goal
 
 pub returns-in-Err-2 : goal.returns-in-Err-2
 returns-in-Err-2 c =

@@ -1,7 +1,7 @@
 use Rattle.std.proofs.Common.{◌≢◌}
 use Rattle.dex_bytes.specs.declared.fault.DexFault.TheVariants.{Memory}
 use Rattle.dex_code.proofs.CodeReads.{code_reads}
-use Rattle.nosleep.proofs.first_form.receiver.has_return_only.Goals as goal
+use Rattle.first_form.proofs.receiver.has_return_only.Goals as goal
 
 pub returns-in-Err-2 : goal.returns-in-Err-2
 returns-in-Err-2 c =

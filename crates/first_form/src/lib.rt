@@ -2,7 +2,7 @@
 ghost use Rattle.std.specs.Prelude.{◌≡◌, ◌↔◌, ◌≤◌, length, IsTrue, IfOk};
 ghost use Rattle.dex_bytes.specs.Header.{front_fault_of};
 ghost use Rattle.dex_tables.specs.Content.{AreTablesOf};
-ghost use Rattle.nosleep.specs.FirstForm.{IsFirstForm};
+ghost use Rattle.first_form.specs.FirstForm.{IsFirstForm};
 
 mod receiver;
 mod text;

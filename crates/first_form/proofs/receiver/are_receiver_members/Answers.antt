@@ -1,5 +1,5 @@
-use Rattle.nosleep.proofs.Members.{HasReceiverMembers-pair, HasReceiverMembers-none, IfOk-same}
-use Rattle.nosleep.proofs.first_form.receiver.are_receiver_members.Goals as goal
+use Rattle.first_form.proofs.Members.{HasReceiverMembers-pair, HasReceiverMembers-none, IfOk-same}
+use Rattle.first_form.proofs.receiver.are_receiver_members.Goals as goal
 
 pub returns-in-Some : goal.returns-in-Some
 returns-in-Some c =
