@@ -3,3 +3,5 @@ pub mod Closed
 pub mod Found
 pub mod Supertypes
 pub mod Rounds
+pub mod Images
+pub mod Steps

@@ -3,3 +3,4 @@ pub mod Path
 pub mod Scope
 pub mod Reached
 pub mod Verdict
+pub mod Walk

@@ -9,6 +9,7 @@ use Rattle.flow_model.specs.Acts.{act_at}
 use Rattle.flow_model.specs.Changes.{after}
 use Rattle.flow_model.specs.Entries.{entry_row, site_at}
 use Rattle.flow_model.specs.Masks.{in_mask, any_below}
+use Rattle.flow_model.specs.Policy.{acquires}
 use Rattle.flow_model.specs.Subject.{SubjectParts, passes_by}
 
 abbrev pub row_after : ℕ → Option Act → List Tag → List Tag
@@ -33,3 +34,7 @@ abbrev pub on_path : AppParts → ℕ → ℕ → ℕ → Bool
 on_path app e zero s = nat_lt e 8 && (e == s)
 on_path app e (suc i) t =
     any_below (λ s. on_path app e i s && in_mask (passes_by 0 (act_at app 0 i) (row_before app 0 i) 0 s) t) 8
+
+-- an instruction of method 0 acquires what the lock field holds
+abbrev pub acquires_at : AppParts → ℕ → Bool
+acquires_at app i = acquires 0 (act_at app 0 i) (row_before app 0 i)

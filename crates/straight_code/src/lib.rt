@@ -7,5 +7,6 @@
 #![tactic(auto)]
 
 mod body;
+mod path;
 mod threads;
 mod views;

@@ -1,0 +1,27 @@
+-- What a walk knows after one more instruction.
+use Rattle.std.proofs.Common.{◌≡◌, ◌+◌, ◌||◌, ◌≤◌, ℕ, zero, suc, Bool, List, Some, refl, sym, ap, ◌∙◌, subst, arith, add-one, add_assoc, zero-add}
+use Rattle.app_model.specs.declared.tag.Tag.{Tag}
+use Rattle.app_model.specs.Parts.{AppParts}
+use Rattle.flow_model.specs.declared.act.Act.{Act}
+use Rattle.flow_model.specs.Acts.{act_at}
+use Rattle.flow_model.specs.Changes.{after}
+use Rattle.flow_model.specs.Entries.{site_at, makes_lock, one_if}
+use Rattle.flow_model.specs.Masks.{any_below}
+use Rattle.flow_model.specs.Policy.{acquires}
+use Rattle.flow_model.specs.Scope.{stores_new}
+use Rattle.flow_model.proofs.Tests.{any_below_next}
+use Rattle.straight_code.specs.Path.{row_before, acquires_at}
+use Rattle.straight_code.specs.Scope.{stores_new_at}
+
+module _ (app : AppParts) (i : ℕ) (act : Act) (there : act_at app 0 i ≡ Some act) where
+  pub row_on : (site : ℕ) (old new : List Tag) → site ≡ site_at app 0 i → old ≡ row_before app 0 i → new ≡ after site act old → new ≡ row_before app 0 (i + 1)
+  row_on site old new s o n = rw (n, o, s, add-one i, there) refl
+
+  pub site_on : (site made : ℕ) → site ≡ site_at app 0 i → made ≡ one_if (makes_lock (Some act)) → site + made ≡ site_at app 0 (i + 1)
+  site_on site made s m = rw (s, m, add-one i, there) (add_assoc _ _ _)
+
+  pub stored_on : (row : List Tag) (before now : Bool) → row ≡ row_before app 0 i → before ≡ any_below (stores_new_at app) i → now ≡ stores_new 0 (Some act) row → (now || before) ≡ any_below (stores_new_at app) (i + 1)
+  stored_on row before now r b n = rw (n, b, r, any_below_next (stores_new_at app) i, there) refl
+
+  pub acquired_on : (row : List Tag) (before now : Bool) → row ≡ row_before app 0 i → before ≡ any_below (acquires_at app) i → now ≡ acquires 0 (Some act) row → (now || before) ≡ any_below (acquires_at app) (i + 1)
+  acquired_on row before now r b n = rw (n, b, r, any_below_next (acquires_at app) i, there) refl

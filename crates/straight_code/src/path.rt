@@ -1,0 +1,183 @@
+//! Follows the tags and the statuses along the one path.
+ghost use Rattle.std.specs.Prelude.{◌≡◌, ◌≢◌, ◌↔◌, ◌<◌, ◌+◌, ◌++◌, ◌≤◌, ◌&&◌, ℕ, length, replicate, true, false, Some, IsTrue, IfOk, slice_index};
+ghost use Rattle.app_model.specs.Parts.{AppParts};
+ghost use Rattle.app_model.specs.Words.{code_len};
+ghost use Rattle.flow_model.specs.Acts.{act_at};
+ghost use Rattle.flow_model.specs.Changes.{after};
+ghost use Rattle.flow_model.specs.Entries.{callback_row, arguments_row, makes_lock, one_if};
+ghost use Rattle.flow_model.specs.Masks.{any_below};
+ghost use Rattle.flow_model.specs.Scope as scope;
+ghost use Rattle.straight_code.specs.Path.{row_before};
+ghost use Rattle.straight_code.specs.Scope.{IsAllowed, stores_new_at};
+ghost use Rattle.straight_code.specs.Verdict.{IsSmallApp};
+ghost use Rattle.straight_code.specs.Walk.{AreImages, IsColumn, IsWalk};
+
+use crate::body::CALLBACK;
+use crate::threads::is_thread_call;
+use app_model::{App, LockUse, Tag};
+use flow_model::{Act, acquires, act_of, apply, image, is_escape, is_wrong_call, pass_mask, stores_new};
+use ns_base::LockNo;
+use std::alloc::{AllocError, Global};
+
+/// The one lock field.
+const LOCK: LockNo = LockNo(0);
+
+/// What is known before an instruction: the tags of the registers, for each status at the entry the
+/// statuses that come here, how many locks were made, and whether one was stored and acquired.
+#[derive(Drop)]
+pub struct Walk {
+    row: Vec<Tag>,
+    images: [u8; 8],
+    site: u32,
+    stored: bool,
+    acquired: bool,
+}
+
+/// The walk before the first instruction.
+pub fn enter(alloc: Global, app: &App) -> Result<Walk, AllocError>
+    requires { IsSmallApp app.now }
+    ensures { IfOk result (IsWalk app.now 0) }
+{
+    let method = app.method(CALLBACK);
+    let row = entry_row(alloc, method.registers, method.ins)?;
+    Ok(Walk {
+        row,
+        images: [0x01, 0x02, 0x04, 0x08, 0x10, 0x20, 0x40, 0x80],
+        site: 0,
+        stored: false,
+        acquired: false,
+    })
+}
+
+// The tags with which a callback begins.
+fn entry_row(alloc: Global, registers: u16, ins: u16) -> Result<Vec<Tag>, AllocError>
+    requires { ins ≤ registers }
+    ensures { IfOk result (λ row. row.items ≡ callback_row registers ins) }
+{
+    let mut row = Vec::with_capacity(alloc, registers as usize + 1)?;
+    push_tags(&mut row, Tag::Zero, registers - ins)?;
+    push_arguments(&mut row, ins)?;
+    row.push(Tag::Zero)?;
+    Ok(row)
+}
+
+fn push_arguments(row: &mut Vec<Tag>, ins: u16) -> Result<(), AllocError>
+    ensures { IfOk result (λ _. row.new.items ≡ row.old.items ++ arguments_row ins) }
+{
+    if ins != 0 {
+        row.push(Tag::Solid)?;
+        push_tags(row, Tag::Any, ins - 1)?;
+    }
+    Ok(())
+}
+
+fn push_tags(row: &mut Vec<Tag>, tag: Tag, count: u16) -> Result<(), AllocError>
+    ensures { IfOk result (λ _. row.new.items ≡ row.old.items ++ replicate count tag) }
+{
+    for _ in 0..count {
+        row.push(tag)?;
+    }
+    Ok(())
+}
+
+/// One instruction on, unless it breaks a rule of scope; then the walk stays.
+pub fn step(walk: &mut Walk, app: &App, index: u32) -> bool
+    requires small { IsSmallApp app.now }
+    requires index { index < code_len app.now 0 }
+    requires room { index < 4294967295 }
+    requires walk { IsWalk app.now index walk.old }
+    ensures allowed { result ≡ true → IsAllowed app.now index }
+    ensures once { result ≡ true → any_below (stores_new_at app.now) index ≡ true → stores_new_at app.now index ≡ false }
+    ensures walk { result ≡ true → IsWalk app.now (index + 1) walk.new }
+    ensures refused { result ≡ false → IsAllowed app.now index → (any_below (stores_new_at app.now) index ≡ true) × (stores_new_at app.now index ≡ true) }
+{
+    let act = act_of(app, CALLBACK, index);
+    if !is_allowed(app, index, act, walk.row.as_slice()) || stores_again(walk, act) {
+        return false;
+    }
+    move_on(walk, act);
+    true
+}
+
+// Whether an act stores a new lock where one was stored before.
+fn stores_again(walk: &Walk, act: Act) -> bool
+    ensures { result ≡ (walk.now.stored && scope.stores_new 0 (Some act) walk.now.row.items) }
+{
+    walk.stored && stores_new(LOCK, act, walk.row.as_slice())
+}
+
+// What is known after an act.
+fn move_on(walk: &mut Walk, act: Act)
+    requires { walk.old.site < 4294967295 }
+    ensures { (app : AppParts) (i : ℕ) → act_at app 0 i ≡ Some act → IsWalk app i walk.old → IsWalk app (i + 1) walk.new }
+{
+    walk.stored = stores_new(LOCK, act, walk.row.as_slice()) | walk.stored;
+    walk.acquired = acquires(LOCK, act, walk.row.as_slice()) | walk.acquired;
+    walk.images = next_images(act, walk.row.as_slice(), &walk.images);
+    apply_to(&mut walk.row, walk.site, act);
+    walk.site += made_by(act);
+}
+
+// Whether no rule of threads, escapes and lock calls is broken.
+fn is_allowed(app: &App, index: u32, act: Act, row: &[Tag]) -> bool
+    requires small { IsSmallApp app.now }
+    requires index { index < code_len app.now 0 }
+    requires act { act_at app.now 0 index ≡ Some act }
+    requires row { row.now ≡ row_before app.now 0 index }
+    ensures { IsTrue result ↔ IsAllowed app.now index }
+{
+    !is_thread_call(app, index, act) && !is_escape(act, row) && !is_wrong_call(act, row)
+}
+
+// How many locks an act makes.
+fn made_by(act: Act) -> u32
+    ensures made { result ≡ one_if (makes_lock (Some act)) }
+    ensures one { result ≤ 1 }
+{
+    match act {
+        Act::Call {
+            usage: LockUse::Make,
+            ..
+        } => 1,
+        _ => 0,
+    }
+}
+
+fn apply_to(row: &mut Vec<Tag>, site: u32, act: Act)
+    ensures { row.new.items ≡ after site act row.old.items }
+{
+    apply(row, site, act);
+}
+
+// The images after an act.
+fn next_images(act: Act, row: &[Tag], images: &[u8; 8]) -> [u8; 8]
+    ensures { (app : AppParts) (i : ℕ) → act_at app 0 i ≡ Some act → row.now ≡ row_before app 0 i → AreImages app i images.now → AreImages app (i + 1) result }
+{
+    let column = column_of(act, row);
+    [
+        image(&column, images[0]),
+        image(&column, images[1]),
+        image(&column, images[2]),
+        image(&column, images[3]),
+        image(&column, images[4]),
+        image(&column, images[5]),
+        image(&column, images[6]),
+        image(&column, images[7]),
+    ]
+}
+
+// Where an act leads from each status.
+fn column_of(act: Act, row: &[Tag]) -> [u8; 8]
+    ensures { IsColumn act row.now result }
+{
+    [
+        pass_mask(LOCK, act, row, 0, 0),
+        pass_mask(LOCK, act, row, 0, 1),
+        pass_mask(LOCK, act, row, 0, 2),
+        pass_mask(LOCK, act, row, 0, 3),
+        pass_mask(LOCK, act, row, 0, 4),
+        pass_mask(LOCK, act, row, 0, 5),
+        pass_mask(LOCK, act, row, 0, 6),
+        pass_mask(LOCK, act, row, 0, 7),
+    ]
+}
