@@ -5,3 +5,4 @@ pub mod Supertypes
 pub mod Rounds
 pub mod Images
 pub mod Steps
+pub mod Judged

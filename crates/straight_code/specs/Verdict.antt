@@ -1,12 +1,14 @@
 -- The judgement of a receiver of straight-line code: not of the form, or the statuses of its violations as a mask.
-use Rattle.std.specs.Prelude.{ℕ, ◌≡◌, ◌≤◌, ◌↔◌, [], ◌∷◌, length, true, Option, Some, None}
+use Rattle.std.specs.Prelude.{ℕ, ◌≡◌, ◌≤◌, ◌↔◌, [], ◌∷◌, length, true, Option, Some, None, slice_index}
 use Rattle.ns_base.specs.declared.rows.TypeNo.{TypeNo}
 use Rattle.app_model.specs.declared.rows.MethodRow.{MethodRow}
 use Rattle.app_model.specs.Parts.{AppParts, ClassParts}
 use Rattle.app_model.specs.Names.{type_text}
 use Rattle.flow_model.specs.Masks.{in_mask}
-use Rattle.flow_model.specs.Policy.{IsDerivableViolation}
+use Rattle.flow_model.specs.Policy.{IsDerivableViolation, is_held}
+use Rattle.straight_code.specs.declared.path.Walk.{Walk}
 use Rattle.straight_code.specs.Body.{IsPlainBody}
+use Rattle.straight_code.specs.Reached.{IsReached, steps_of}
 use Rattle.straight_code.specs.Path.{path_subject}
 use Rattle.straight_code.specs.Scope.{IsInScope}
 
@@ -22,6 +24,13 @@ pub record IsSmallApp (app : AppParts) : Type 0 where
   pub methods : app.methods ≡ method ∷ []
   pub fits : method.ins ≤ method.registers
   pub locks : length app.locks ≡ 1
+
+-- the reached statuses, and the held ones to which a callback leads from them, where a lock is acquired
+pub record AreEnds (walk : Walk) (mask : ℕ) : Type 0 where
+  pub views : ℕ
+  pub reached : (s : ℕ) → (in_mask views s ≡ true) ↔ IsReached (steps_of walk.images) s
+  pub ends : (t : ℕ) → (in_mask mask t ≡ true)
+      ↔ ((walk.acquired ≡ true) × (is_held t ≡ true) × ((s : ℕ) × (in_mask views s ≡ true) × (in_mask (slice_index walk.images s) t ≡ true)))
 
 -- its code is plain and in scope
 pub record IsPlainPath (app : AppParts) : Type 0 where

@@ -9,4 +9,7 @@
 mod body;
 mod path;
 mod threads;
+mod verdict;
 mod views;
+
+pub use verdict::judge;

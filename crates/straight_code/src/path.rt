@@ -15,7 +15,9 @@ ghost use Rattle.straight_code.specs.Walk.{AreImages, IsColumn, IsWalk};
 use crate::body::CALLBACK;
 use crate::threads::is_thread_call;
 use app_model::{App, LockUse, Tag};
-use flow_model::{Act, acquires, act_of, apply, image, is_escape, is_wrong_call, pass_mask, stores_new};
+use flow_model::{
+    Act, acquires, act_of, apply, image, is_escape, is_wrong_call, pass_mask, stores_new,
+};
 use ns_base::LockNo;
 use std::alloc::{AllocError, Global};
 
@@ -31,6 +33,22 @@ pub struct Walk {
     site: u32,
     stored: bool,
     acquired: bool,
+}
+
+impl Walk {
+    /// For each status at the entry, the statuses here.
+    pub fn images(&self) -> &[u8; 8]
+        ensures { result.now ≡ self.now.images }
+    {
+        &self.images
+    }
+
+    /// Whether the lock was acquired.
+    pub fn acquired(&self) -> bool
+        ensures { result ≡ self.now.acquired }
+    {
+        self.acquired
+    }
 }
 
 /// The walk before the first instruction.

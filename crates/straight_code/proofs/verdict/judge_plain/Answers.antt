@@ -1,0 +1,33 @@
+use Rattle.std.proofs.Common.{rules, ◌≡◌, ◌<◌, ℕ, subst}
+use Rattle.straight_code.specs.Scope.{IsAllowed}
+use Rattle.straight_code.specs.Walk.{IsWalk}
+use Rattle.straight_code.proofs.Judged.{out_of_scope, allowed_on, once_on, in_scope, are_ends}
+use Rattle.straight_code.proofs.verdict.judge_plain.Goals as goal
+
+-- src/verdict.rt:42:13
+pub returns-then-not-step : goal.returns-then-not-step
+returns-then-not-step c =
+    out_of_scope c.args.app.now c.loop-index.index (search rules) (search (rules, c.step.ensures.refused))
+
+-- src/verdict.rt:40:5
+pub loop-index-preserved : goal.loop-index-preserved
+loop-index-preserved c =
+    let app = c.args.app.now in
+    let i = c.loop-index.invariant in (
+      search (rules, c.step.ensures.walk),
+      allowed_on app c.loop-index.index i.1 (search (rules, c.step.ensures.allowed)),
+      once_on app c.loop-index.index i.2 (search (rules, c.step.ensures.once)),
+    )
+
+-- src/verdict.rt:33:1
+pub returns : goal.returns
+returns c =
+    let app = c.args.app.now in
+    let plain = c.requires.plain in
+    let i = c.loop-index.invariant in
+    let at_end : c.loop-index.index ≡ plain.last = search rules in
+    let walk = subst (λ (n : ℕ). IsWalk app n c.loop-index.walk) at_end i.0 in
+    let each = subst (λ (n : ℕ). (k : ℕ) → k < n → IsAllowed app k) at_end i.1 in (
+      record { plain = plain; scope = in_scope app plain each (search (rules, i.2, at_end)) },
+      are_ends app plain c.loop-index.walk walk c.requires.small.locks c.held_at_end.result c.held_at_end.ensures,
+    )
