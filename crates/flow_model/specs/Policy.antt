@@ -5,6 +5,7 @@ use Rattle.app_model.specs.declared.tag.Tag.{Tag}
 use Rattle.app_model.specs.declared.lock_use.LockUse.TheVariants.{Acquire}
 use Rattle.app_model.specs.Components.{edge_at, callback_at, exits_at}
 use Rattle.flow_model.specs.declared.act.Act.{Act}
+use Rattle.flow_model.specs.declared.policy.Violation.{Violation}
 use Rattle.flow_model.specs.declared.act.Act.TheVariants.{Call}
 use Rattle.flow_model.specs.Acts.{act_at, receiver_of}
 use Rattle.flow_model.specs.Changes.{tag_in}
@@ -62,13 +63,6 @@ IsDerivableViolation x l c k s = IsViolation x l (Derived (Rules x l) none_given
 
 abbrev pub MeetsPolicy : SubjectParts → ℕ → Set → Type 0
 MeetsPolicy x l set = (c k s : ℕ) → ¬ IsViolation x l (HasAll set) c k s
-
--- a violation by its component, callback, lock field and status
-pub record Violation : Type 0 where
-  pub component : ℕ
-  pub callback : ℕ
-  pub lock : ℕ
-  pub status : ℕ
 
 -- the order of reports
 abbrev pub ComesBefore : Violation → Violation → Type 0

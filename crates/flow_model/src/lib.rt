@@ -5,6 +5,7 @@ mod act;
 mod changes;
 mod masks;
 mod passes;
+mod policy;
 mod scope;
 mod status;
 mod tags;
@@ -15,6 +16,7 @@ pub use masks::{
     Branches, Outcome, after_acquire, after_is_held, after_mode, after_null, after_release,
     after_store, held_test, image, null_test,
 };
+pub use policy::Violation;
 pub use passes::{acquires, is_own, pass_mask, tag_in, throws};
 pub use scope::{is_escape, is_wrong_call, stores_new};
 pub use tags::join;

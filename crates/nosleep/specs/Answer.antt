@@ -1,17 +1,40 @@
 -- The answer to a command line and files: which exit comes, with which text, and why.
-use Rattle.std.specs.Prelude.{◌≡◌, ◌≢◌, ◌⊎◌, ℕ, List, [], Option, Some, None}
+use Rattle.std.specs.Prelude.{◌≡◌, ◌≢◌, ◌⊎◌, ◌≤◌, ℕ, List, [], length, Option, Some, None}
 use Rattle.ns_base.specs.declared.answers.Exit.{Exit}
 use Rattle.ns_base.specs.declared.answers.Exit.TheVariants as exits
 use Rattle.ns_base.specs.Outside.{Rose}
 use Rattle.nosleep.specs.Words.{Receiver, form_of}
-use Rattle.nosleep.specs.Texts.{usage_text, cannot_read_text, not_built_text, accept_text}
+use Rattle.report_text.specs.Texts.{usage_text, cannot_read_text, not_built_text, accept_text}
 use Rattle.nosleep.specs.Reading.{WhereTold}
 use Rattle.nosleep.specs.Writing.{WroteAll, WrotePart}
-use Rattle.nosleep.specs.FirstForm.{IsJudged}
+use Rattle.ns_base.specs.Answers.{limit_of}
+use Rattle.ns_base.specs.declared.answers.Counted.TheVariants.{FileBytes}
+use Rattle.app_model.specs.Parts.{AppParts}
+use Rattle.flow_model.specs.Subject.{SubjectParts}
+use Rattle.flow_model.specs.declared.policy.Violation.{Violation}
+use Rattle.flow_model.specs.Policy.{AreViolations}
+use Rattle.first_form.specs.FirstForm.{IsReceiverApp}
+use Rattle.straight_code.specs.Path.{path_subject}
+use Rattle.straight_code.specs.Verdict.{IsPlainPath}
+use Rattle.report_text.specs.Heads.{heads_text}
 
 -- the words have a form, of which this holds
 abbrev pub Asks : List (List ℕ) → (List ℕ → List ℕ → Type 0) → Type 0
 Asks words P = (dex class : List ℕ) × (form_of words ≡ Some (Receiver dex class)) × P dex class
+
+-- the application of a file within the limit, of the first form with plain code in scope
+pub record IsJudged (bs class : List ℕ) (app : AppParts) : Type 0 where
+  pub limit : length bs ≤ limit_of FileBytes
+  pub is : IsReceiverApp bs class app
+  pub path : IsPlainPath app
+
+-- the file is judged, and of its application this holds
+abbrev pub Judged : List ℕ → List ℕ → (SubjectParts → Type 0) → Type 0
+Judged bs class P = (app : AppParts) × IsJudged bs class app × P (path_subject app)
+
+-- the rules derive some violations, and these are their heads
+abbrev pub HasHeads : List ℕ → SubjectParts → Type 0
+HasHeads text x = (violations : List Violation) × AreViolations x violations × (violations ≢ []) × (text ≡ heads_text x.app x.list violations)
 
 -- The words and the files come to this exit and text. Content counts where the shelf tells it; before and
 -- now are the shelf's counts of faults. Want of memory may come always, and no other answer comes.
@@ -20,9 +43,11 @@ IsAnswer words content before now text exits.Usage = (form_of words ≡ None) ×
 IsAnswer words content before now text exits.ReadFault =
     Asks words (λ dex class. (text ≡ cannot_read_text dex) × Rose before now)
 IsAnswer words content before now text exits.Bad =
-    Asks words (λ dex class. (text ≡ not_built_text) × WhereTold (content dex) (λ bs. ¬ IsJudged bs class))
+    Asks words (λ dex class. (text ≡ not_built_text) × WhereTold (content dex) (λ bs. (app : AppParts) → ¬ IsJudged bs class app))
+IsAnswer words content before now text exits.Reports =
+    Asks words (λ dex class. WhereTold (content dex) (λ bs. Judged bs class (HasHeads text)))
 IsAnswer words content before now text exits.Accept =
-    Asks words (λ dex class. (text ≡ accept_text) × WhereTold (content dex) (λ bs. IsJudged bs class))
+    Asks words (λ dex class. (text ≡ accept_text) × WhereTold (content dex) (λ bs. Judged bs class (λ x. AreViolations x [])))
 IsAnswer words content before now text exits.Memory = text ≡ []
 IsAnswer words content before now text _ = ⊥
 

@@ -1,5 +1,4 @@
 pub mod Answer
 pub mod Reading
-pub mod Texts
 pub mod Words
 pub mod Writing

@@ -3,7 +3,7 @@ ghost use Rattle.std.specs.Prelude.{◌≡◌, ◌≢◌, ◌≤◌, map, length
 ghost use Rattle.ns_base.specs.declared.answers.Exit.TheVariants as exits;
 ghost use Rattle.nosleep.specs.Answer.{IsAnswer};
 ghost use Rattle.nosleep.specs.Reading.{KeepsShelf};
-ghost use Rattle.nosleep.specs.Texts.{accept_text, not_built_text};
+ghost use Rattle.report_text.specs.Texts.{accept_text, not_built_text};
 ghost use Rattle.nosleep.specs.FirstForm.{IsFirstForm, IsJudged};
 
 use crate::first_form::is_first_form;

@@ -1,6 +1,6 @@
 //! The texts that the program writes.
 ghost use Rattle.std.specs.Prelude.{◌≡◌, ◌+◌, ◌++◌, ◌<◌, length, IfOk};
-ghost use Rattle.nosleep.specs.Texts.{usage_text, accept_text, not_built_text, cannot_read_text, shown, shown_byte, is_plain, hex_digit};
+ghost use Rattle.report_text.specs.Texts.{usage_text, accept_text, not_built_text, cannot_read_text, shown, shown_byte, is_plain, hex_digit};
 
 use std::alloc::{AllocError, Global};
 
@@ -40,8 +40,8 @@ pub fn cannot_read(alloc: Global, name: &str) -> Result<Vec<u8>, AllocError>
     Ok(text)
 }
 
-// Adds a name as it is shown.
-fn push_shown(text: &mut Vec<u8>, name: &[u8]) -> Result<(), AllocError>
+/// Adds a name as it is shown.
+pub fn push_shown(text: &mut Vec<u8>, name: &[u8]) -> Result<(), AllocError>
     ensures { IfOk result (λ _. text.new.items ≡ text.old.items ++ shown name.now) }
 {
     for byte in name {

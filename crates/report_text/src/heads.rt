@@ -1,0 +1,155 @@
+//! The heads of the reports.
+ghost use Rattle.std.specs.Prelude.{◌≡◌, ◌<◌, ◌+◌, ◌++◌, length, slice_get, slice_index_or, decimal, codes, IfOk, []};
+ghost use Rattle.app_model.specs.Components.{callbacks_of};
+ghost use Rattle.report_text.specs.Heads as spec;
+ghost use Rattle.report_text.specs.Heads.{callback_text, field_text, head_text, heads_before, lock_text, member_text, no_violation, status_name};
+
+use crate::texts::push_shown;
+use app_model::{App, ComponentRow, FieldRow, Kind};
+use flow_model::Violation;
+use std::alloc::{AllocError, Global};
+
+/// A line for each violation, in their order.
+pub fn heads_text(
+    alloc: Global,
+    app: &App,
+    list: &[ComponentRow],
+    violations: &[Violation],
+) -> Result<Vec<u8>, AllocError>
+    requires { length violations.now < 4294967296 }
+    ensures { IfOk result (λ text. text.items ≡ spec.heads_text app.now list.now violations.now) }
+{
+    let mut text = Vec::new(alloc);
+    for i in 0..violations.len() {
+        push_head(alloc, &mut text, app, list, violations, i)?;
+    }
+    Ok(text)
+}
+
+#[tactic(auto, unfolding(crate::specs::Heads::head_text))]
+fn push_head(
+    alloc: Global,
+    text: &mut Vec<u8>,
+    app: &App,
+    list: &[ComponentRow],
+    violations: &[Violation],
+    i: usize,
+) -> Result<(), AllocError>
+    requires { i < length violations.now }
+    ensures { IfOk result (λ _. text.new.items ≡ text.old.items ++ head_text app.now list.now (i + 1) (length violations.now) (slice_index_or violations.now i no_violation)) }
+{
+    let violation = violations[i];
+    text.extend_from_slice(b"report ")?;
+    push_decimal(alloc, text, i + 1)?;
+    text.extend_from_slice(b" of ")?;
+    push_decimal(alloc, text, violations.len())?;
+    text.extend_from_slice(b": ")?;
+    push_lock(text, app, violation.lock)?;
+    text.extend_from_slice(b" is ")?;
+    text.extend_from_slice(name_of_status(violation.status))?;
+    text.extend_from_slice(b" after ")?;
+    push_callback(text, app, list, violation.component, violation.callback)?;
+    text.push(b'\n')?;
+    Ok(())
+}
+
+fn push_decimal(alloc: Global, text: &mut Vec<u8>, number: usize) -> Result<(), AllocError>
+    ensures { IfOk result (λ _. text.new.items ≡ text.old.items ++ decimal number) }
+{
+    let digits = number.to_string(alloc)?;
+    text.extend_from_slice(digits.as_bytes())?;
+    Ok(())
+}
+
+// CLASS->NAME.
+fn push_member(text: &mut Vec<u8>, class: &[u8], name: &[u8]) -> Result<(), AllocError>
+    ensures { IfOk result (λ _. text.new.items ≡ text.old.items ++ member_text class.now name.now) }
+{
+    push_shown(text, class)?;
+    text.extend_from_slice(b"->")?;
+    push_shown(text, name)?;
+    Ok(())
+}
+
+fn push_field(text: &mut Vec<u8>, app: &App, field: Option<FieldRow>) -> Result<(), AllocError>
+    ensures { IfOk result (λ _. text.new.items ≡ text.old.items ++ field_text app.now field) }
+{
+    match field {
+        Some(field) => push_member(text, app.class_text(field.class), app.name_text(field.name)),
+        None => Ok(()),
+    }
+}
+
+#[tactic(auto, unfolding(crate::specs::Heads::lock_text))]
+fn push_lock(text: &mut Vec<u8>, app: &App, lock: u32) -> Result<(), AllocError>
+    ensures { IfOk result (λ _. text.new.items ≡ text.old.items ++ lock_text app.now lock) }
+{
+    push_field(text, app, field_of(app, lock))
+}
+
+// The row of a lock field.
+fn field_of(app: &App, lock: u32) -> Option<FieldRow>
+    ensures { result ≡ spec.field_of app.now (slice_get app.now.locks lock) }
+{
+    let Some(field) = app.locks().get(lock as usize) else {
+        return None;
+    };
+    if field.0 < app.field_count() {
+        Some(*app.field(*field))
+    } else {
+        None
+    }
+}
+
+#[tactic(auto, unfolding(crate::specs::Heads::callback_text))]
+fn push_callback(
+    text: &mut Vec<u8>,
+    app: &App,
+    list: &[ComponentRow],
+    component: u32,
+    callback: u32,
+) -> Result<(), AllocError>
+    ensures { IfOk result (λ _. text.new.items ≡ text.old.items ++ callback_text app.now list.now component callback) }
+{
+    match list.get(component as usize) {
+        Some(row) => push_member(text, app.class_text(row.class), name_of_callback(row.kind, callback)),
+        None => Ok(()),
+    }
+}
+
+fn name_of_callback(kind: Kind, callback: u32) -> &'static [u8]
+    ensures { result.now ≡ slice_index_or (callbacks_of kind) callback [] }
+{
+    match (kind, callback) {
+        (Kind::Activity | Kind::Service, 0) => b"onCreate",
+        (Kind::Activity, 1) | (Kind::Service, 2) => b"onStart",
+        (Kind::Activity, 2) => b"onResume",
+        (Kind::Activity, 3) => b"onPause",
+        (Kind::Activity, 4) => b"onStop",
+        (Kind::Activity, 5) => b"onRestart",
+        (Kind::Activity | Kind::Service, 6) => b"onDestroy",
+        (Kind::Service, 1) => b"onStartCommand",
+        (Kind::Service, 3) => b"onBind",
+        (Kind::Service, 4) => b"onUnbind",
+        (Kind::Service, 5) => b"onRebind",
+        (Kind::Receiver, 0) => b"onReceive",
+        (Kind::Runnable, 0) => b"run",
+        _ => &[],
+    }
+}
+
+fn name_of_status(status: u8) -> &'static [u8]
+    ensures { result.now ≡ status_name status }
+{
+    match status {
+        0 => b"A",
+        1 => b"C0",
+        2 => b"C1",
+        3 => b"C2",
+        4 => b"CT",
+        5 => b"U0",
+        6 => b"U1",
+        7 => b"L",
+        _ => &[],
+    }
+}
