@@ -14,7 +14,7 @@ pub use act::{Act, Gives, act_of};
 pub use changes::{apply, apply_thrown};
 pub use masks::{
     Branches, Outcome, after_acquire, after_is_held, after_mode, after_null, after_release,
-    after_store, held_test, image, null_test,
+    after_store, has_status, held_test, image, null_test,
 };
 pub use policy::Violation;
 pub use passes::{acquires, is_own, pass_mask, tag_in, throws};

@@ -6,3 +6,4 @@ pub mod Rounds
 pub mod Images
 pub mod Steps
 pub mod Judged
+pub mod Listed

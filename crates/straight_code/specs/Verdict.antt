@@ -1,11 +1,12 @@
--- The judgement of a receiver of straight-line code: not of the form, or the statuses of its violations as a mask.
-use Rattle.std.specs.Prelude.{ℕ, ◌≡◌, ◌≤◌, ◌↔◌, [], ◌∷◌, length, true, Option, Some, None, slice_index}
+-- The judgement of a receiver of straight-line code: not of the form, or its violations.
+use Rattle.std.specs.Prelude.{ℕ, zero, suc, ◌≡◌, ◌≤◌, ◌↔◌, List, [], ◌∷◌, ◌++◌, if◌then◌else◌, length, true, Option, Some, None, slice_index}
 use Rattle.ns_base.specs.declared.rows.TypeNo.{TypeNo}
 use Rattle.app_model.specs.declared.rows.MethodRow.{MethodRow}
 use Rattle.app_model.specs.Parts.{AppParts, ClassParts}
 use Rattle.app_model.specs.Names.{type_text}
 use Rattle.flow_model.specs.Masks.{in_mask}
-use Rattle.flow_model.specs.Policy.{IsDerivableViolation, is_held}
+use Rattle.flow_model.specs.Policy.{IsDerivableViolation, AreViolations, is_held}
+use Rattle.flow_model.specs.declared.policy.Violation.{Violation}
 use Rattle.straight_code.specs.declared.path.Walk.{Walk}
 use Rattle.straight_code.specs.Body.{IsPlainBody}
 use Rattle.straight_code.specs.Reached.{IsReached, steps_of}
@@ -41,6 +42,17 @@ pub record IsPlainPath (app : AppParts) : Type 0 where
 abbrev pub AreHeld : AppParts → ℕ → Type 0
 AreHeld app mask = (s : ℕ) → (in_mask mask s ≡ true) ↔ IsDerivableViolation (path_subject app) 0 0 0 s
 
-abbrev pub IsVerdict : AppParts → Option ℕ → Type 0
+abbrev pub IsVerdict : AppParts → Option (List Violation) → Type 0
 IsVerdict app None = ¬ IsPlainPath app
-IsVerdict app (Some mask) = IsPlainPath app × AreHeld app mask
+IsVerdict app (Some violations) = IsPlainPath app × AreViolations (path_subject app) violations
+
+-- the violation of the callback at a status, and those at the statuses of a mask below n, in order
+abbrev pub violation_at : ℕ → Violation
+violation_at s = record { component = 0; callback = 0; lock = 0; status = s }
+
+abbrev pub one_if_in : ℕ → ℕ → List Violation
+one_if_in mask s = if in_mask mask s then violation_at s ∷ [] else []
+
+abbrev pub violations_below : ℕ → ℕ → List Violation
+violations_below mask zero = []
+violations_below mask (suc s) = violations_below mask s ++ one_if_in mask s

@@ -1,6 +1,11 @@
-use Rattle.std.proofs.Common.{rules, ◌≡◌, ◌<◌, ℕ, subst}
+use Rattle.std.proofs.Common.{rules, ◌≡◌, ◌<◌, ℕ, List, sym, subst}
 use Rattle.straight_code.specs.Scope.{IsAllowed}
 use Rattle.straight_code.specs.Walk.{IsWalk}
+use Rattle.flow_model.specs.declared.policy.Violation.{Violation}
+use Rattle.flow_model.specs.Policy.{AreViolations}
+use Rattle.straight_code.specs.Path.{path_subject}
+use Rattle.straight_code.specs.Verdict.{violations_below}
+use Rattle.straight_code.proofs.Listed.{are_violations}
 use Rattle.straight_code.proofs.Judged.{out_of_scope, allowed_on, once_on, in_scope, are_ends}
 use Rattle.straight_code.proofs.verdict.judge_plain.Goals as goal
 
@@ -27,7 +32,10 @@ returns c =
     let i = c.loop-index.invariant in
     let at_end : c.loop-index.index ≡ plain.last = search rules in
     let walk = subst (λ (n : ℕ). IsWalk app n c.loop-index.walk) at_end i.0 in
+    let one = c.requires.small.locks in
+    let listed : c.in_ok-list_violations.field-0.items ≡ violations_below c.held_at_end.result 8 = search rules in
     let each = subst (λ (n : ℕ). (k : ℕ) → k < n → IsAllowed app k) at_end i.1 in (
       record { plain = plain; scope = in_scope app plain each (search (rules, i.2, at_end)) },
-      are_ends app plain c.loop-index.walk walk c.requires.small.locks c.held_at_end.result c.held_at_end.ensures,
+      subst (λ (vs : List Violation). AreViolations (path_subject app) vs) (sym listed)
+          (are_violations app one c.held_at_end.result (are_ends app plain c.loop-index.walk walk one c.held_at_end.result c.held_at_end.ensures)),
     )
