@@ -1,5 +1,5 @@
 -- The first form of an application: one receiver class with one static wake lock and one callback.
-use Rattle.std.specs.Prelude.{◌≡◌, ◌≢◌, ◌<◌, ◌≤◌, ℕ, List, [], ◌∷◌, length, map, slice_index, codes, bit_and, Some, None, Ok}
+use Rattle.std.specs.Prelude.{◌≡◌, ◌≢◌, ◌<◌, ℕ, List, [], ◌∷◌, length, map, slice_index, codes, bit_and, Some, None, Ok}
 use Rattle.std.specs.List.{range_with_len}
 use Rattle.ns_base.specs.declared.rows.TypeNo.{TypeNo}
 use Rattle.app_model.specs.declared.body.Place.{Place}
@@ -12,10 +12,8 @@ use Rattle.app_model.specs.declared.rows.Operand.TheVariants.{Plain, Invoke, Acc
 use Rattle.app_model.specs.Body.{BodyRows}
 use Rattle.app_model.specs.Parts.{AppParts, ClassParts, ProtoParts}
 use Rattle.method_graph.specs.Graph.{graph_of}
-use Rattle.ns_base.specs.Answers.{limit_of}
-use Rattle.ns_base.specs.declared.answers.Counted.TheVariants.{FileBytes}
 use Rattle.dex_bytes.specs.Header.{front_fault_of}
-use Rattle.dex_tables.specs.Rows.{string_count, type_count, class_count, field_count, method_count, string_text, type_name, proto_result, proto_params, field_class, field_type, field_name, method_class, method_proto, method_name, class_type, class_flags, class_parent, no_parent, class_interfaces, list_size, list_entry}
+use Rattle.dex_tables.specs.Rows.{string_count, type_count, proto_count, class_count, field_count, method_count, string_text, type_name, proto_result, proto_params, field_class, field_type, field_name, method_class, method_proto, method_name, class_type, class_flags, class_parent, no_parent, class_interfaces, list_size, list_entry}
 use Rattle.dex_tables.specs.Content.{IdTables, AreTablesOf}
 use Rattle.dex_code.specs.declared.members.Member.{Member}
 use Rattle.dex_code.specs.Content.{MemberLists, AreMembersOf, CodeContent, IsCodeOf}

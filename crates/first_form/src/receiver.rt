@@ -1,15 +1,20 @@
-//! Whether the one class is a receiver with one lock, whose onReceive only returns.
+//! The one class: a receiver with one lock and one callback, whose control flow is found.
 ghost use Rattle.std.specs.Prelude.{◌≡◌, ◌≢◌, ◌≤◌, ◌<◌, ◌↔◌, ◌+◌, ◌*◌, ℕ, length, IsTrue, IfOk, MatchOption};
+ghost use Rattle.app_model.specs.Body.{BodyRows};
+ghost use Rattle.dalvik_decode.specs.declared.faults.CodeFault.{CodeFault};
 ghost use Rattle.dex_code.specs.declared.members.Member.{Member};
-ghost use Rattle.dex_code.specs.Content.{AreMembersOf};
+ghost use Rattle.dex_code.specs.Content.{AreMembersOf, CodeContent, IsCodeOf};
 ghost use Rattle.dex_tables.specs.Content.{AreTablesOf};
-ghost use Rattle.dex_tables.specs.Rows.{class_count, class_data, type_count, type_name, proto_count, proto_params, list_size, list_entry};
-ghost use Rattle.first_form.specs.FirstForm.{AreReceiverParams, IsOnlyClass, IsReceiverRow, HasTwoMembers, HasReceiverMembers, IsReceiverPair, HasReturnOnly, IsLockField, IsCallback, IsReceiverProto, IsReturnOnly};
+ghost use Rattle.dex_tables.specs.Rows.{class_count, method_count, type_count, type_name, proto_count, proto_params, list_size, list_entry};
+ghost use Rattle.first_form.specs.FirstForm.{AreReceiverParams, HasBody, HasTwoMembers, IsCallback, IsLockField, IsReceiverClass, IsReceiverProto, IsReceiverRow};
 
 use super::is_want_of_memory;
 use super::text::{is_named, is_text};
+use app_model::Body;
+use dalvik_decode::CodeFault;
 use dex_code::{ClassMembers, CodeItem, Member, read_class_members, read_code};
 use dex_tables::Tables;
+use method_graph::build_graph;
 use std::alloc::{AllocError, Global};
 
 /// Flags that the callback may not have: static, native, abstract.
@@ -17,24 +22,55 @@ const BANNED: u32 = 0x8 | 0x100 | 0x400;
 
 const WAKE_LOCK: &[u8] = b"Landroid/os/PowerManager$WakeLock;";
 
-/// The code unit of return-void.
-const RETURN_VOID: u16 = 0x000e;
+/// The argument registers of the callback: itself, the context and the intent.
+const CALLBACK_INS: u16 = 3;
 
-/// Whether there is one class, which is a receiver of this name as the first form wants it.
-pub fn is_only_class(
+/// The lock and the callback of the one class, where it is a receiver of this name.
+pub fn find_pair(
     alloc: Global,
     bytes: &[u8],
     tables: &Tables,
     class: &[u8],
-) -> Result<bool, AllocError>
+) -> Result<Option<(Member, Member)>, AllocError>
     requires tables { AreTablesOf bytes.now tables.now }
     requires len { length bytes.now ≤ 33554432 }
-    ensures { IfOk result (λ is. IsTrue is ↔ IsOnlyClass bytes.now class.now) }
+    ensures { IfOk result (λ found. MatchOption found ((lock callback : Member) → ¬ IsReceiverClass bytes.now class.now lock callback)
+        (λ pair. IsReceiverClass bytes.now class.now pair.0 pair.1)) }
 {
     if tables.classes.len() != 1 || !is_receiver_row(bytes, tables, class) {
-        return Ok(false);
+        return Ok(None);
     }
-    has_receiver_members(alloc, bytes, tables, class)
+    match read_class_members(alloc, bytes, tables, 0) {
+        Ok(members) => Ok(pair_in(bytes, tables, class, &members)),
+        Err(fault) if is_want_of_memory(fault) => Err(AllocError),
+        Err(_) => Ok(None),
+    }
+}
+
+// The same of a class with a right row and these members.
+fn pair_in(
+    bytes: &[u8],
+    tables: &Tables,
+    class: &[u8],
+    members: &ClassMembers,
+) -> Option<(Member, Member)>
+    requires tables { AreTablesOf bytes.now tables.now }
+    requires one { class_count bytes.now ≡ 1 }
+    requires row { IsReceiverRow bytes.now class.now }
+    requires stand { AreMembersOf bytes.now 0 members.now }
+    ensures { MatchOption result ((lock callback : Member) → ¬ IsReceiverClass bytes.now class.now lock callback)
+        (λ pair. IsReceiverClass bytes.now class.now pair.0 pair.1) }
+{
+    let Some((lock, callback)) = lock_and_callback(members) else {
+        return None;
+    };
+    if is_lock_field(bytes, tables, class, lock.id)
+        && is_callback(bytes, tables, class, callback.id, callback.flags)
+    {
+        Some((lock, callback))
+    } else {
+        None
+    }
 }
 
 fn is_receiver_row(bytes: &[u8], tables: &Tables, class: &[u8]) -> bool
@@ -51,63 +87,6 @@ fn is_receiver_row(bytes: &[u8], tables: &Tables, class: &[u8]) -> bool
         && row.interfaces.len == 0
 }
 
-fn has_receiver_members(
-    alloc: Global,
-    bytes: &[u8],
-    tables: &Tables,
-    class: &[u8],
-) -> Result<bool, AllocError>
-    requires tables { AreTablesOf bytes.now tables.now }
-    requires len { length bytes.now ≤ 33554432 }
-    requires one { 0 < class_count bytes.now }
-    ensures { IfOk result (λ is. IsTrue is ↔ HasReceiverMembers bytes.now class.now) }
-{
-    match read_class_members(alloc, bytes, tables, 0) {
-        Ok(members) => are_receiver_members(alloc, bytes, tables, class, &members),
-        Err(fault) if is_want_of_memory(fault) => Err(AllocError),
-        Err(_) => Ok(false),
-    }
-}
-
-fn are_receiver_members(
-    alloc: Global,
-    bytes: &[u8],
-    tables: &Tables,
-    class: &[u8],
-    members: &ClassMembers,
-) -> Result<bool, AllocError>
-    requires tables { AreTablesOf bytes.now tables.now }
-    requires len { length bytes.now ≤ 33554432 }
-    requires stand { AreMembersOf bytes.now 0 members.now }
-    ensures { IfOk result (λ is. IsTrue is ↔ HasReceiverMembers bytes.now class.now) }
-{
-    match lock_and_callback(members) {
-        Some((lock, callback)) => is_receiver_pair(alloc, bytes, tables, class, lock, callback),
-        None => Ok(false),
-    }
-}
-
-fn is_receiver_pair(
-    alloc: Global,
-    bytes: &[u8],
-    tables: &Tables,
-    class: &[u8],
-    lock: Member,
-    callback: Member,
-) -> Result<bool, AllocError>
-    requires tables { AreTablesOf bytes.now tables.now }
-    requires len { length bytes.now ≤ 33554432 }
-    ensures { IfOk result (λ is. IsTrue is ↔ IsReceiverPair bytes.now class.now lock callback) }
-{
-    if !is_lock_field(bytes, tables, class, lock.id) {
-        return Ok(false);
-    }
-    if !is_callback(bytes, tables, class, callback.id, callback.flags) {
-        return Ok(false);
-    }
-    has_return_only(alloc, bytes, tables, callback.code)
-}
-
 // The one static field and the one virtual method, where there are no other members.
 fn lock_and_callback(members: &ClassMembers) -> Option<(Member, Member)>
     ensures { MatchOption result ((lock callback : Member) → ¬ HasTwoMembers members.now lock callback)
@@ -122,36 +101,59 @@ fn lock_and_callback(members: &ClassMembers) -> Option<(Member, Member)>
     }
 }
 
-fn has_return_only(
+/// The code of the callback and its control flow, where they are of the first form.
+pub fn find_body(
     alloc: Global,
     bytes: &[u8],
     tables: &Tables,
-    off: u32,
-) -> Result<bool, AllocError>
+    callback: Member,
+) -> Result<Option<(CodeItem, Body)>, AllocError>
     requires tables { AreTablesOf bytes.now tables.now }
     requires len { length bytes.now ≤ 33554432 }
-    ensures { IfOk result (λ is. IsTrue is ↔ HasReturnOnly bytes.now off) }
+    requires row { callback.id < method_count bytes.now }
+    ensures { IfOk result (λ found. MatchOption found ((code : CodeContent) (body : BodyRows) → ¬ HasBody bytes.now callback code body)
+        (λ pair. HasBody bytes.now callback pair.0 pair.1)) }
 {
-    if off == 0 {
-        return Ok(false);
+    if callback.code == 0 {
+        return Ok(None);
     }
-    match read_code(alloc, bytes, tables, off) {
-        Ok(code) => Ok(is_return_only(&code)),
+    match read_code(alloc, bytes, tables, callback.code) {
+        Ok(code) => body_in(alloc, bytes, tables, callback, code),
         Err(fault) if is_want_of_memory(fault) => Err(AllocError),
-        Err(_) => Ok(false),
+        Err(_) => Ok(None),
     }
 }
 
-fn is_return_only(code: &CodeItem) -> bool
-    ensures { IsTrue result ↔ IsReturnOnly code.now }
+// The same of a callback with this code.
+fn body_in(
+    alloc: Global,
+    bytes: &[u8],
+    tables: &Tables,
+    callback: Member,
+    code: CodeItem,
+) -> Result<Option<(CodeItem, Body)>, AllocError>
+    requires tables { AreTablesOf bytes.now tables.now }
+    requires len { length bytes.now ≤ 33554432 }
+    requires row { callback.id < method_count bytes.now }
+    requires there { callback.code ≢ 0 }
+    requires stands { IsCodeOf bytes.now callback.code code }
+    ensures { IfOk result (λ found. MatchOption found ((code : CodeContent) (body : BodyRows) → ¬ HasBody bytes.now callback code body)
+        (λ pair. HasBody bytes.now callback pair.0 pair.1)) }
 {
-    if code.ins != 3 || !code.tries.is_empty() {
-        return false;
+    if code.ins != CALLBACK_INS || !code.tries.is_empty() {
+        return Ok(None);
     }
-    match code.units.as_slice() {
-        [unit] => *unit == RETURN_VOID,
-        _ => false,
+    match build_graph(alloc, bytes, tables, callback.id, callback.flags, &code) {
+        Ok(body) => Ok(Some((code, body))),
+        Err(fault) if is_code_out_of_memory(fault) => Err(AllocError),
+        Err(_) => Ok(None),
     }
+}
+
+fn is_code_out_of_memory(fault: CodeFault) -> bool
+    ensures { IsTrue result ↔ (fault ≡ CodeFault.Memory) }
+{
+    matches!(fault, CodeFault::Memory)
 }
 
 fn is_lock_field(bytes: &[u8], tables: &Tables, class: &[u8], f: u32) -> bool

@@ -28,10 +28,7 @@ fn is_string_plain(bytes: &[u8], tables: &Tables, i: u32) -> bool
     requires row { i < string_count bytes.now }
     ensures { IsTrue result ↔ IsPlainText (string_text bytes.now i) }
 {
-    match string_bytes(bytes, tables, i) {
-        Some(text) => is_plain(text),
-        None => unreachable!(),
-    }
+    is_plain(text_from(bytes, tables, i))
 }
 
 fn is_plain(text: &[u8]) -> bool
@@ -46,14 +43,35 @@ fn is_ascii(text: &[u8]) -> bool
     text.iter().all(|byte| 0 < *byte && *byte < 0x80)
 }
 
-/// Whether a type has this name.
+/// The bytes of a string.
+pub fn text_from<'a>(bytes: &'a [u8], tables: &Tables, string: u32) -> &'a [u8]
+    requires tables { AreTablesOf bytes.now tables.now }
+    requires row { string < string_count bytes.now }
+    ensures { result.now ≡ string_text bytes.now string }
+{
+    match string_bytes(bytes, tables, string) {
+        Some(text) => text,
+        None => unreachable!(),
+    }
+}
+
+/// The bytes of a type's name.
 #[tactic(auto, unfolding(dex_tables::specs::Rows::type_name))]
+pub fn name_from<'a>(bytes: &'a [u8], tables: &Tables, kind: u32) -> &'a [u8]
+    requires tables { AreTablesOf bytes.now tables.now }
+    requires row { kind < type_count bytes.now }
+    ensures { result.now ≡ type_name bytes.now kind }
+{
+    text_from(bytes, tables, tables.types[kind as usize])
+}
+
+/// Whether a type has this name.
 pub fn is_named(bytes: &[u8], tables: &Tables, kind: u32, name: &[u8]) -> bool
     requires tables { AreTablesOf bytes.now tables.now }
     requires row { kind < type_count bytes.now }
     ensures { IsTrue result ↔ (type_name bytes.now kind ≡ name.now) }
 {
-    is_text(bytes, tables, tables.types[kind as usize], name)
+    name_from(bytes, tables, kind) == name
 }
 
 /// Whether a string has this text.
@@ -62,8 +80,5 @@ pub fn is_text(bytes: &[u8], tables: &Tables, string: u32, text: &[u8]) -> bool
     requires row { string < string_count bytes.now }
     ensures { IsTrue result ↔ (string_text bytes.now string ≡ text.now) }
 {
-    match string_bytes(bytes, tables, string) {
-        Some(found) => found == text,
-        None => unreachable!(),
-    }
+    text_from(bytes, tables, string) == text
 }
