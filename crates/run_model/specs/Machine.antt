@@ -211,11 +211,27 @@ outside_options x at h f rest usage given (Some (Object type)) =
     if may_receive x.app type (named_at x.app f.method f.index)
     then answer_options x at h f rest usage given ++ throws_from x at h (f ∷ rest) else Over Stuck ∷ []
 
+-- setReferenceCounted without an argument
+abbrev pub lacks_argument : LockUse → Option Value → Bool
+lacks_argument Mode None = true
+lacks_argument Mode (Some v) = false
+lacks_argument Plain argument = false
+lacks_argument Make argument = false
+lacks_argument Acquire argument = false
+lacks_argument Release argument = false
+lacks_argument IsHeld argument = false
+lacks_argument Wrong argument = false
+
+abbrev pub full_lock_call_options : SubjectParts → Callback → Heap → Frame → List Frame → LockUse → Args → List State
+full_lock_call_options x at h f rest usage arguments =
+    if lacks_argument usage (register f (argument_of arguments))
+    then Over Stuck ∷ [] else lock_call_options x at h f rest usage arguments (receiver_in f arguments)
+
 -- a lock may be the receiver of a lock call, and no other argument of a call
 abbrev pub call_options : SubjectParts → Callback → Heap → Frame → List Frame → LockUse → Args → Gives → List State
 call_options x at h f rest usage arguments given =
     if is_lock_call usage
-    then (if gives_lock f arguments 1 then Over Escape ∷ [] else lock_call_options x at h f rest usage arguments (receiver_in f arguments))
+    then (if gives_lock f arguments 1 then Over Escape ∷ [] else full_lock_call_options x at h f rest usage arguments)
     else (if gives_lock f arguments 0 then Over Escape ∷ [] else outside_options x at h f rest usage given (receiver_in f arguments))
 
 abbrev pub act_options : SubjectParts → Callback → Heap → Frame → List Frame → Option Act → List State
