@@ -1,3 +1,5 @@
 pub mod Members
 pub mod Rows
 pub mod Heaps
+pub mod Meanings
+pub mod Registers
