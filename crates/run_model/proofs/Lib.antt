@@ -3,3 +3,6 @@ pub mod Rows
 pub mod Heaps
 pub mod Meanings
 pub mod Registers
+pub mod Entries
+pub mod Callbacks
+pub mod Steps
