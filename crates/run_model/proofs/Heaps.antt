@@ -75,6 +75,9 @@ pub status_is : (h : Heap) (l : ℕ) → status h l ≡ status_of (is_lost h l) 
 unfolding status
 status_is h l = refl
 
+pub status_at : (h : Heap) (l : ℕ) (o : Option ℕ) → cell h l ≡ o → status h l ≡ status_of (is_lost h l) (counter_at h o)
+status_at h l o e = status_is h l ∙ ap (λ c. status_of (is_lost h l) (counter_at h c)) e
+
 -- ---- a lock that changes in the cell of lock field l
 module _ (n0 : ℕ) (h : Heap) (l i : ℕ) (x : Lock) (ok : IsHeap n0 h) (c : cell h l ≡ Some i) (owner : x.owner ≡ (lock_at h i).owner) where
   abbrev pub changed : Heap
@@ -122,6 +125,13 @@ module _ (n0 : ℕ) (h : Heap) (l i : ℕ) (x : Lock) (ok : IsHeap n0 h) (c : ce
   -- a lock that no field owns is as it was
   pub changed_loose : (k : ℕ) → (lock_at h k).owner ≡ None → lock_at changed k ≡ lock_at h k
   changed_loose k f = put_other h h.cells i x k (not_loose k f)
+
+  -- the lock of another field's cell is as it was
+  pub changed_apart : (s k : ℕ) → s ≢ l → cell h s ≡ Some k → lock_at changed k ≡ lock_at h k
+  changed_apart s k ne e = put_other h h.cells i x k (apart s k ne e)
+
+  pub changed_count : x.count ≡ (lock_at h i).count → (k : ℕ) → (lock_at changed k).count ≡ (lock_at h k).count
+  changed_count same k = ⊎_elim (λ eq. ap (λ (y : Lock). y.count) (put_at h h.cells i x k eq there) ∙ same ∙ ap (λ j. (lock_at h j).count) (sym eq)) (λ ne. ap (λ (y : Lock). y.count) (put_other h h.cells i x k ne)) (cases_eq k i)
 
   loose_before : (k : ℕ) → (lock_at changed k).owner ≡ None → (lock_at h k).owner ≡ None
   loose_before k f = sym (owner_kept k) ∙ f

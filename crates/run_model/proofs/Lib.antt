@@ -6,3 +6,5 @@ pub mod Registers
 pub mod Entries
 pub mod Callbacks
 pub mod Steps
+pub mod Masks
+pub mod LockCalls

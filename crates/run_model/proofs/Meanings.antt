@@ -94,6 +94,10 @@ new_stored (tag.New z) i lo hi h ok s = (z, refl, ok)
 new_stored tag.Mixed i lo hi h ok s = cc
 
 -- ---- what is kept
+pub held_same : (h h' : Heap) (o : Option ℕ) → ((i : ℕ) → o ≡ Some i → (lock_at h' i).count ≡ (lock_at h i).count) → held_in h' o ≡ held_in h o
+held_same h h' None same = refl
+held_same h h' (Some i) same = ap held_value (same i refl)
+
 -- locks that no field owns
 abbrev pub KeepsLoose : ℕ → ℕ → Heap → Heap → Type 0
 KeepsLoose lo hi h h' = (i : ℕ) → lo ≤ i → i < hi → (lock_at h i).owner ≡ None → lock_at h' i ≡ lock_at h i
