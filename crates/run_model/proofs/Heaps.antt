@@ -20,7 +20,7 @@ any_same : (f g : ℕ → Bool) (n : ℕ) → ((k : ℕ) → f k ≡ g k) → an
 any_same f g zero e = refl
 any_same f g (suc n) e = rw (e n, any_same f g n e) refl
 
-any_true : (f : ℕ → Bool) (n : ℕ) → any_below f n ≡ true → (k : ℕ) × (k < n) × (f k ≡ true)
+pub any_true : (f : ℕ → Bool) (n : ℕ) → any_below f n ≡ true → (k : ℕ) × (k < n) × (f k ≡ true)
 any_true f zero h = absurd (false≢true h)
 any_true f (suc n) h = ⊎_elim (λ here. (n, omega arith, here)) (λ below. let r = any_true f n below in (r.0, omega (arith, r.1), r.2)) (or_cases (f n) (any_below f n) h)
 

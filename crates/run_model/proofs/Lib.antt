@@ -8,3 +8,6 @@ pub mod Callbacks
 pub mod Steps
 pub mod Masks
 pub mod LockCalls
+pub mod Calls
+pub mod Instructions
+pub mod Runs
