@@ -11,8 +11,10 @@ use Rattle.flow_model.specs.Subject.{SubjectParts, status_masks}
 use Rattle.run_model.specs.Heaps.{Heap, Lock, cell, is_lost, lock_at, status}
 use Rattle.run_model.specs.Machine.{Callback, Frame, State, Idle, Running, AtEnd, Over, options_of, run_from, run_of, start_of, step}
 use Rattle.run_model.specs.Relation.{Each, IsHeap, IsIdle, IsInside, IsSound}
-use Rattle.run_model.specs.Soundness.{StandsWell}
+use Rattle.run_model.specs.Soundness.{LeavesNoneHeld, StandsWell}
 use Rattle.run_model.specs.Tagged.{IsTagged}
+use Rattle.run_model.proofs.Heaps.{held_exactly}
+use Rattle.std.proofs.lemmas.Bool.{false≢true}
 use Rattle.run_model.proofs.Members.{each_get, each_weaker}
 use Rattle.run_model.proofs.Callbacks.{end_ok, idle_ok}
 use Rattle.run_model.proofs.Instructions.{act_ok}
@@ -94,3 +96,12 @@ module _ (x : SubjectParts) (l : ℕ) (set : Set) (tg : IsTagged x) (lt : l < le
 
   pub runs_law : (choices : List ℕ) → StandsWell x l (run_of x choices)
   runs_law choices = stands _ (run_ok choices (start_of x) start_ok)
+
+  leaves : (s : State) → IsSound x l set s → LeavesNoneHeld x l s
+  leaves (Idle states h) ok = tt
+  leaves (Running at h frames) ok = tt
+  leaves (AtEnd at h) ok = λ edge there exit answers holds. false≢true (sym (ok.1 edge there exit answers) ∙ (held_exactly h l (length x.app.locks) ok.0.heap).1 holds)
+  leaves (Over why) ok = tt
+
+  pub counts_law : (choices : List ℕ) → LeavesNoneHeld x l (run_of x choices)
+  counts_law choices = leaves _ (run_ok choices (start_of x) start_ok)
