@@ -1,14 +1,14 @@
 -- The start of a callback, and its end.
-use Rattle.std.proofs.Common.{◌≡◌, ◌≢◌, ℕ, zero, suc, ◌+◌, ◌<◌, ◌≤◌, Bool, true, false, if◌then◌else◌, List, [], ◌∷◌, length, get_or, map, Option, Some, None, refl, sym, ap, ◌∙◌, inl, inr, ⊎_elim, arith, subst, subst₂}
-use Rattle.std.specs.Prelude.{slice_get, slice_index, slice_index_or, slice_set as set_at, ◌==◌, ◌&&◌}
-use Rattle.std.proofs.lemmas.Bool.{cases_Bool, cases_lt, eqb-true, false_from_ne_true}
-use Rattle.std.proofs.lemmas.List.{get_or-set_same, length-set, get_or_past}
+use Rattle.std.proofs.Common.{◌≡◌, ℕ, zero, suc, ◌+◌, ◌<◌, Bool, true, false, if◌then◌else◌, List, [], ◌∷◌, length, Option, Some, None, refl, sym, ap, ◌∙◌, inr, ⊎_elim, arith, subst, subst₂}
+use Rattle.std.specs.Prelude.{slice_get, slice_index, slice_set as set_at, ◌==◌}
+use Rattle.std.proofs.lemmas.Bool.{cases_Bool, eqb-true, false_from_ne_true}
+use Rattle.std.proofs.lemmas.List.{get_or-set_same, length-set}
 use Rattle.app_model.specs.declared.component.Edge.{Edge}
 use Rattle.app_model.specs.Components.{ComponentParts, edges_of, edge_of, edge_at, callback_at, exits_at}
 use Rattle.flow_model.specs.Derived.{Set, IsClosed}
 use Rattle.flow_model.specs.Entries.{entry_row}
 use Rattle.flow_model.specs.Facts.{At, View, Ret}
-use Rattle.flow_model.specs.Policy.{AnswersFor, IsViolation, MeetsPolicy, is_held}
+use Rattle.flow_model.specs.Policy.{AnswersFor, MeetsPolicy, is_held}
 use Rattle.flow_model.specs.Masks.{in_mask}
 use Rattle.flow_model.specs.Rules.{Inner, Between, V3, V4, by_method, entered, cleared}
 use Rattle.flow_model.specs.Subject.{SubjectParts, status_masks}
@@ -18,7 +18,7 @@ use Rattle.run_model.specs.Relation.{AreTagged, AreViews, Each, ExitsWell, IsCal
 use Rattle.run_model.specs.Tagged.{IsEntered, IsTagged}
 use Rattle.run_model.proofs.Members.{each_append, each_if, each_map}
 use Rattle.run_model.proofs.Rows.{cleared_ok}
-use Rattle.run_model.proofs.Heaps.{other_cells, emptied_status, kept_status, held_above, status_is, cleared_cell, uncleared_cell, cleared_heap}
+use Rattle.run_model.proofs.Heaps.{emptied_status, kept_status, held_above, status_is, cleared_cell, uncleared_cell, cleared_heap}
 use Rattle.run_model.proofs.Registers.{tagged_under}
 use Rattle.run_model.proofs.Entries.{entries_ok}
 
@@ -157,6 +157,7 @@ module _ (x : SubjectParts) (own : ℕ) (set : Set) (tg : IsTagged x) (cl : IsCl
         exit = yes_exit';
         held = bad;
         answers = answers;
-      }))) in
-      (record { views = subst (λ states. AreViews x set states (status h own)) (sym d.states) views; heap = d.heap },
-      λ other is yes_exit answers. exit other (subst₂ (λ c e. edge_at x.list c e ≡ Some other) (sym d.same_component) (sym d.same_edge) is) (subst (λ c. in_mask (exits_at x.list c) other.callback ≡ true) (sym d.same_component) yes_exit) (subst (λ c. AnswersFor x c own) (sym d.same_component) answers))
+      }))) in (
+        record { views = subst (λ states. AreViews x set states (status h own)) (sym d.states) views; heap = d.heap },
+        λ other is yes_exit answers. exit other (subst₂ (λ c e. edge_at x.list c e ≡ Some other) (sym d.same_component) (sym d.same_edge) is) (subst (λ c. in_mask (exits_at x.list c) other.callback ≡ true) (sym d.same_component) yes_exit) (subst (λ c. AnswersFor x c own) (sym d.same_component) answers),
+      )

@@ -1,8 +1,7 @@
 -- Calls keep the relation.
-use Rattle.std.proofs.Common.{◌≡◌, ◌≢◌, ℕ, zero, suc, ◌+◌, ◌<◌, ◌≤◌, Bool, true, false, if◌then◌else◌, List, [], ◌∷◌, ◌++◌, length, map, Option, Some, None, slice_get, refl, sym, ap, ◌∙◌, ⊎_elim, arith, subst, length-append}
-use Rattle.std.specs.Prelude.{◌==◌, ◌&&◌, ◌||◌, nat_le}
+use Rattle.std.proofs.Common.{◌≡◌, ℕ, suc, Bool, true, false, if◌then◌else◌, List, [], ◌∷◌, ◌++◌, length, map, Option, Some, None, slice_get, refl, sym, ap, ◌∙◌, arith, subst, length-append}
+use Rattle.std.specs.Prelude.{◌==◌, ◌&&◌, nat_le}
 use Rattle.std.proofs.lemmas.Bool.{and_parts, and_from, or_parts, false≢true}
-use Rattle.ns_base.specs.declared.rows.LockNo.{LockNo}
 use Rattle.app_model.specs.declared.ins.Args.{Args}
 use Rattle.app_model.specs.declared.tag.Tag.{Tag}
 use Rattle.app_model.specs.declared.tag.Tag.TheVariants as tag
@@ -13,14 +12,14 @@ use Rattle.flow_model.specs.declared.act.Gives.{Gives}
 use Rattle.flow_model.specs.declared.act.Act.{Act}
 use Rattle.flow_model.specs.declared.act.Act.TheVariants.{Call}
 use Rattle.flow_model.specs.Acts.{act_at, receiver_of, argument_of}
-use Rattle.flow_model.specs.Changes.{tag_in, call_change, given_tag, thrown}
+use Rattle.flow_model.specs.Changes.{tag_in, call_change, given_tag}
 use Rattle.flow_model.specs.Derived.{Set}
 use Rattle.flow_model.specs.Entries.{site_at}
 use Rattle.flow_model.specs.Masks.{any_below, in_mask}
 use Rattle.flow_model.specs.Passes.{is_lock_call, passes_null_test, throws}
 use Rattle.flow_model.specs.Scope.{arg_count, arg_at, call_escapes, escapes_as_receiver, is_escape, may_be_lock, passes_lock}
 use Rattle.flow_model.specs.Subject.{SubjectParts}
-use Rattle.run_model.specs.Heaps.{Value, Zero, Nonzero, Object, LockRef, Heap, Lock, cell, is_lock, is_owned, lock_at, new_lock, status, with_new}
+use Rattle.run_model.specs.Heaps.{Value, Zero, Nonzero, Object, LockRef, Heap, Lock, cell, is_owned, lock_at, new_lock, status, with_new}
 use Rattle.run_model.specs.Types.{may_receive}
 use Rattle.run_model.specs.Machine.{Frame, Over, Stuck, Escape, register, is_lock_in, gives_lock, receiver_in, lacks_argument, answers, answers_of, throws_from, lock_call_options, full_lock_call_options, operation_options, answer_options, outside_options, call_options}
 use Rattle.run_model.specs.Relation.{AreTagged, Each, IsHeap, IsInside, IsNew, Means}
@@ -31,7 +30,7 @@ use Rattle.run_model.proofs.Registers.{tagged_map, tagged_read}
 use Rattle.run_model.proofs.Entries.{answers_ok}
 use Rattle.run_model.proofs.Masks.{passes_object, outside_throws_object, zero_throws}
 use Rattle.run_model.proofs.LockCalls.{answer_ok, argument_tag, operation_ok, receiver_tag, thrown_ok}
-use Rattle.run_model.proofs.Steps.{Premises, Top, row_of, throws_ok, only_status}
+use Rattle.run_model.proofs.Steps.{Premises, Top, row_of, throws_ok}
 
 any_weaker : (f g : ℕ → Bool) (n : ℕ) → ((k : ℕ) → f k ≡ true → g k ≡ true) → any_below f n ≡ true → any_below g n ≡ true
 any_weaker f g n w h = let r = any_true f n h in any_from g n r.0 r.1 (w r.0 r.2)

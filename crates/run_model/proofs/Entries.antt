@@ -1,5 +1,5 @@
 -- The registers with which a callback's method begins are as the entry's tags say, and free values are no locks.
-use Rattle.std.proofs.Common.{None, Some, Option, if◌then◌else◌, refl, true, false, ◌≡◌, ◌==◌, ℕ, zero, suc, ◌-◌, ◌<◌, List, [], ◌∷◌, ◌++◌, length, map, replicate, get_or, slice_get, ap, arith, flat_map}
+use Rattle.std.proofs.Common.{None, Some, Option, refl, false, ◌≡◌, ℕ, zero, suc, ◌-◌, ◌<◌, List, [], ◌∷◌, ◌++◌, length, map, replicate, get_or, slice_get, ap, arith}
 use Rattle.std.specs.List.{range_with_len}
 use Rattle.ns_base.specs.declared.rows.TypeNo.{TypeNo}
 use Rattle.app_model.specs.declared.rows.MethodRow.{MethodRow}
@@ -13,10 +13,10 @@ use Rattle.flow_model.specs.Changes.{tag_in, given_tag}
 use Rattle.flow_model.specs.declared.act.Gives.{Gives}
 use Rattle.flow_model.specs.declared.act.Gives.TheVariants as gives
 use Rattle.flow_model.specs.Entries.{arguments_row, entry_row}
-use Rattle.run_model.specs.Heaps.{Value, Zero, Nonzero, Object, Heap, is_lock}
-use Rattle.run_model.specs.Machine.{free_numbers, free_objects, free_references, answers_of, is_wide, words_of, argument_words, fitted, chosen, this_of, entries_of}
+use Rattle.run_model.specs.Heaps.{Value, Zero, Object, Heap, is_lock}
+use Rattle.run_model.specs.Machine.{free_numbers, free_references, answers_of, is_wide, words_of, argument_words, fitted, chosen, this_of, entries_of}
 use Rattle.run_model.specs.Relation.{AreTagged, Each, IsSolid, Means}
-use Rattle.run_model.proofs.Members.{each_append, each_map, each_flat_map, each_all, each_if, each_weaker}
+use Rattle.run_model.proofs.Members.{each_append, each_map, each_flat_map, each_all, each_if}
 
 abbrev pub NoLock : Value → Type 0
 NoLock v = is_lock v ≡ false
@@ -25,10 +25,12 @@ numbers_ok : Each NoLock free_numbers
 numbers_ok = (refl, (refl, tt))
 
 pub references_ok : (app : AppParts) → Each NoLock (free_references app)
-references_ok app =
-    (refl, each_append NoLock (map (λ t. Object (Some t)) (range_with_len 0 (length app.types))) (Object None ∷ [])
-    (each_map (λ (t : ℕ). Unit {0}) NoLock (λ t. Object (Some t)) (λ t _. refl) (range_with_len 0 (length app.types)) (each_all (λ (t : ℕ). Unit {0}) (λ t. tt) (range_with_len 0 (length app.types))))
-    (refl, tt))
+references_ok app = (
+  refl,
+  each_append NoLock (map (λ t. Object (Some t)) (range_with_len 0 (length app.types))) (Object None ∷ [])
+      (each_map (λ (t : ℕ). Unit {0}) NoLock (λ t. Object (Some t)) (λ t _. refl) (range_with_len 0 (length app.types)) (each_all (λ (t : ℕ). Unit {0}) (λ t. tt) (range_with_len 0 (length app.types))))
+      (refl, tt),
+)
 
 -- what the outside answers is as the tag of the result says
 pub answers_ok : (app : AppParts) (given : Gives) (lo hi : ℕ) (h : Heap) → Each (λ v. Means (given_tag given) v lo hi h) (answers_of app given)

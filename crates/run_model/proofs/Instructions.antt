@@ -1,28 +1,27 @@
 -- Each instruction keeps the relation.
-use Rattle.std.proofs.Common.{◌≡◌, ◌≢◌, ℕ, zero, suc, pred, ◌<◌, ◌≤◌, Bool, true, false, if◌then◌else◌, List, [], ◌∷◌, length, map, get_or, set, Option, Some, None, slice_get, refl, sym, ap, ◌∙◌, inl, ⊎_elim, arith, subst, subst₂}
+use Rattle.std.proofs.Common.{◌≡◌, ℕ, pred, ◌<◌, Bool, true, false, if◌then◌else◌, List, [], ◌∷◌, length, map, get_or, set, Option, Some, None, refl, sym, ap, ◌∙◌, inl, arith, subst, subst₂}
 use Rattle.std.specs.Prelude.{◌==◌}
-use Rattle.std.proofs.lemmas.Bool.{cases_eq, eq-eqb, eqb-true, eqb-false, ne_eqb, false≢true}
+use Rattle.std.proofs.lemmas.Bool.{eqb-true, eqb-false, false≢true}
 use Rattle.std.proofs.lemmas.List.{length-set}
 use Rattle.std.proofs.lemmas.Option.{get_or_from_slice_get}
 use Rattle.ns_base.specs.declared.rows.LockNo.{LockNo}
 use Rattle.app_model.specs.declared.tag.Tag.{Tag}
 use Rattle.app_model.specs.declared.tag.Tag.TheVariants as tag
-use Rattle.app_model.specs.Components.{edge_at}
 use Rattle.flow_model.specs.declared.act.Act.{Act}
 use Rattle.flow_model.specs.declared.act.Act.TheVariants.{Nop, ReturnVoid, TakeResult, WriteZero, WriteNonzero, WriteText, CheckCast, ReadStatic, WriteStatic, Call, Other}
 use Rattle.flow_model.specs.Acts.{act_at}
-use Rattle.flow_model.specs.Changes.{tag_in, after, after_stored, read_tag, result_cell, stored_change}
+use Rattle.flow_model.specs.Changes.{tag_in, after, after_stored, result_cell, stored_change}
 use Rattle.flow_model.specs.Derived.{Set}
 use Rattle.flow_model.specs.Entries.{site_at}
 use Rattle.flow_model.specs.Facts.{Ret}
 use Rattle.flow_model.specs.Masks.{in_mask}
 use Rattle.flow_model.specs.Passes.{only, stored_passes, write_passes, passes}
 use Rattle.flow_model.specs.Rules.{I1_return}
-use Rattle.flow_model.specs.Scope.{is_escape, may_be_lock, may_be_stored, write_escapes}
+use Rattle.flow_model.specs.Scope.{is_escape, may_be_stored, write_escapes}
 use Rattle.flow_model.specs.Subject.{SubjectParts}
 use Rattle.run_model.specs.Heaps.{Value, Zero, Nonzero, Object, LockRef, Heap, Lock, cell, cell_value, counter_at, is_lock, is_lost, is_owned, lock_at, status, with_null, with_stored}
-use Rattle.run_model.specs.Machine.{Frame, Over, Stuck, Escape, act_options, ended, free_references, goes_on, read_options, register, result_index, returns, store_options, take_options, text_value, write_options, writes}
-use Rattle.run_model.specs.Relation.{AreTagged, Below, Each, IsHeap, IsInside, IsNew, Means, held_in}
+use Rattle.run_model.specs.Machine.{Frame, Over, Escape, act_options, free_references, goes_on, read_options, register, result_index, returns, store_options, take_options, text_value, write_options, writes}
+use Rattle.run_model.specs.Relation.{AreTagged, Below, Each, IsHeap, IsInside, Means}
 use Rattle.run_model.proofs.Members.{each_if, each_map}
 use Rattle.run_model.proofs.Rows.{null_ok, store_ok}
 use Rattle.run_model.proofs.Heaps.{held_above, emptied_status, kept_status, null_cell, null_heap, null_other, other_locks, status_is, taken_apart, taken_apart_cell, taken_cell, taken_heap, taken_other, taken_other_status, taken_status}
@@ -108,10 +107,12 @@ module _ (x : SubjectParts) (own : ℕ) (set_of : Set) (p : Premises x own set_o
       store_null : register f from ≡ Some Zero → Each (IsInside x own set_of) (store_options x p.at h f rest l.0 Zero)
       store_null there =
           let e = zero_stored (tag_in row from) t.lo (length h.locks) h (stored_means from (Some l) is Zero there) may_store in
-          let tags = tagged_map row f.registers t.lo (length h.locks) h t.registers (stored_change l.0 tag.Zero) (length emptied.locks) emptied (means_null t.lo (length h.locks) (length emptied.locks) h emptied l.0 null_keeps) in
-          (goes_ok x own set_of p h emptied f rest f.registers (WriteStatic from (Some l)) 0 t (null_heap number h l.0 ok in_range) is (omega arith)
-          (subst (λ (q : Tag). in_mask (write_passes own (Some l) q (status h own)) (status emptied own) ≡ true) (sym e) null_mask)
-          (subst (λ (q : Tag). AreTagged (after_stored row from l q) f.registers t.lo (length emptied.locks) emptied) (sym e) tags), tt)
+          let tags = tagged_map row f.registers t.lo (length h.locks) h t.registers (stored_change l.0 tag.Zero) (length emptied.locks) emptied (means_null t.lo (length h.locks) (length emptied.locks) h emptied l.0 null_keeps) in (
+            goes_ok x own set_of p h emptied f rest f.registers (WriteStatic from (Some l)) 0 t (null_heap number h l.0 ok in_range) is (omega arith)
+                (subst (λ (q : Tag). in_mask (write_passes own (Some l) q (status h own)) (status emptied own) ≡ true) (sym e) null_mask)
+                (subst (λ (q : Tag). AreTagged (after_stored row from l q) f.registers t.lo (length emptied.locks) emptied) (sym e) tags),
+            tt,
+          )
 
       -- of a lock that was made at site z, and that no field owns
       module _ (i z : ℕ) (there : register f from ≡ Some (LockRef i)) (e : tag_in row from ≡ tag.New z) (below : i < length h.locks) (loose : (lock_at h i).owner ≡ None) (made : (lock_at h i).site ≡ z) where

@@ -1,5 +1,5 @@
 -- Lock calls keep the relation.
-use Rattle.std.proofs.Common.{◌≡◌, ◌≢◌, ℕ, zero, suc, pred, ◌<◌, ◌≤◌, Bool, true, false, List, [], ◌∷◌, length, map, set, Option, Some, None, refl, sym, ap, ◌∙◌, ⊎_elim, arith, subst}
+use Rattle.std.proofs.Common.{◌≡◌, ℕ, zero, suc, pred, ◌≤◌, Bool, true, false, List, [], ◌∷◌, length, map, set, Option, Some, None, refl, sym, ap, ◌∙◌, arith, subst}
 use Rattle.std.specs.Prelude.{not, ◌==◌}
 use Rattle.std.proofs.lemmas.Bool.{eqb-true, eqb-false}
 use Rattle.std.proofs.lemmas.List.{length-set}
@@ -10,7 +10,6 @@ use Rattle.app_model.specs.declared.tag.Tag.TheVariants as tag
 use Rattle.app_model.specs.declared.lock_use.LockUse.{LockUse}
 use Rattle.app_model.specs.declared.lock_use.LockUse.TheVariants.{Plain, Make, Acquire, Release, IsHeld, Mode, Wrong}
 use Rattle.flow_model.specs.declared.act.Gives.{Gives}
-use Rattle.flow_model.specs.declared.act.Act.{Act}
 use Rattle.flow_model.specs.declared.act.Act.TheVariants.{Call}
 use Rattle.flow_model.specs.Acts.{act_at, receiver_of, argument_of}
 use Rattle.flow_model.specs.Changes.{tag_in, call_change, held_change, held_tag, result_tag, thrown}
@@ -20,11 +19,11 @@ use Rattle.flow_model.specs.Masks.{in_mask}
 use Rattle.flow_model.specs.Passes.{passes, only, lock_call_passes, lock_call_throws}
 use Rattle.flow_model.specs.Status.{acquire_passes, release_passes, release_throws, is_held_passes, mode_passes}
 use Rattle.flow_model.specs.Subject.{SubjectParts}
-use Rattle.run_model.specs.Heaps.{Value, Zero, LockRef, Heap, Lock, cell, held_value, is_lost, is_zero, lock_at, status, status_of, counter_at, with_count, with_mode}
+use Rattle.run_model.specs.Heaps.{Value, Zero, Heap, Lock, cell, held_value, is_lost, is_zero, lock_at, status, status_of, with_count}
 use Rattle.run_model.specs.Machine.{Frame, register, result_index, answers, release_options, mode_options, operation_options}
 use Rattle.run_model.specs.Relation.{AreTagged, Each, IsHeap, IsInside, Means, held_in}
 use Rattle.run_model.proofs.Rows.{some, acquire_ok, release_ok, release_all_ok, release_zero, is_held_ok}
-use Rattle.run_model.proofs.Heaps.{cell_same, changed, changed_status, changed_other, changed_ok, changed_loose, changed_apart, changed_count, status_at}
+use Rattle.run_model.proofs.Heaps.{cell_same, changed_status, changed_other, changed_ok, changed_loose, changed_apart, changed_count, status_at}
 use Rattle.run_model.proofs.Meanings.{KeepsBut, nowhere, only_at, held_same, means_counted, means_kept, means_thrown}
 use Rattle.run_model.proofs.Registers.{tagged_map, tagged_set, tagged_read}
 use Rattle.run_model.proofs.Masks.{column_ok, in_if, mode_ok}

@@ -1,5 +1,5 @@
 -- What a tag says of a value, and how that is kept.
-use Rattle.std.proofs.Common.{None, Some, Option, if◌then◌else◌, refl, Bool, true, false, ◌≡◌, ◌≢◌, ℕ, zero, suc, ◌<◌, ◌≤◌, length, sym, ap, ◌∙◌, ⊎_elim, arith}
+use Rattle.std.proofs.Common.{None, Some, Option, if◌then◌else◌, refl, Bool, true, false, ◌≡◌, ◌≢◌, ℕ, zero, suc, ◌<◌, ◌≤◌, sym, ap, ◌∙◌, arith}
 use Rattle.std.specs.Prelude.{◌==◌}
 use Rattle.std.proofs.lemmas.Bool.{false≢true, eqb-false}
 use Rattle.ns_base.specs.declared.rows.LockNo.{LockNo}

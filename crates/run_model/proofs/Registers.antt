@@ -1,5 +1,5 @@
 -- How the registers of a frame keep their tags.
-use Rattle.std.proofs.Common.{None, Some, refl, ◌≡◌, ◌≢◌, ℕ, pred, zero, suc, ◌+◌, ◌-◌, ◌<◌, ◌≤◌, List, [], ◌∷◌, ◌++◌, length, map, replicate, get_or, set, slice_get, sym, ap, ◌∙◌, ⊎_elim, arith, subst}
+use Rattle.std.proofs.Common.{Some, ◌≡◌, ℕ, pred, ◌<◌, List, length, map, get_or, set, slice_get, sym, ap, ◌∙◌, ⊎_elim, arith, subst}
 use Rattle.std.proofs.lemmas.Bool.{cases_eq}
 use Rattle.std.proofs.lemmas.List.{get_or-set_same, get_or-set_other, length-set, get_or-map, length-map}
 use Rattle.std.proofs.lemmas.Option.{get_or_from_slice_get, slice_get_within}

@@ -1,14 +1,12 @@
 -- Every step keeps the relation, and so does every run.
-use Rattle.std.proofs.Common.{Option, get_or, zero, suc, replicate, Some, None, ◌≡◌, ℕ, ◌<◌, ◌%◌, true, List, [], ◌∷◌, length, refl, sym, inl, inr, ◌∙◌}
-use Rattle.std.specs.Prelude.{◌⊎◌, slice_index}
+use Rattle.std.proofs.Common.{Option, get_or, zero, suc, replicate, None, ◌≡◌, ℕ, ◌<◌, ◌%◌, List, [], ◌∷◌, length, refl, sym, inl, inr, ◌∙◌}
 use Rattle.std.proofs.lemmas.List.{length-replicate, get_or-replicate}
 use Rattle.flow_model.specs.Acts.{act_at}
 use Rattle.flow_model.specs.Derived.{Set, IsClosed}
-use Rattle.flow_model.specs.Facts.{View}
 use Rattle.flow_model.specs.Policy.{MeetsPolicy}
 use Rattle.flow_model.specs.Rules.{Between, Inner, Rules, V1}
 use Rattle.flow_model.specs.Subject.{SubjectParts, status_masks}
-use Rattle.run_model.specs.Heaps.{Heap, Lock, cell, is_lost, lock_at, status}
+use Rattle.run_model.specs.Heaps.{Heap, cell, is_lost, lock_at, status}
 use Rattle.run_model.specs.Machine.{Callback, Frame, State, Idle, Running, AtEnd, Over, options_of, run_from, run_of, start_of, step}
 use Rattle.run_model.specs.Relation.{Each, IsHeap, IsIdle, IsInside, IsSound}
 use Rattle.run_model.specs.Soundness.{LeavesNoneHeld, StandsWell}

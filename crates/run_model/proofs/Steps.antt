@@ -1,5 +1,5 @@
 -- What carries every instruction: on to a successor, and a throw.
-use Rattle.std.proofs.Common.{◌≡◌, ℕ, ◌<◌, ◌≤◌, Bool, true, false, if◌then◌else◌, List, [], ◌∷◌, ◌++◌, map, length, Option, Some, None, refl, sym, ap, ◌∙◌, inl, inr, ⊎_elim, arith, subst, slice_get}
+use Rattle.std.proofs.Common.{◌≡◌, ℕ, ◌≤◌, true, List, [], ◌∷◌, map, length, Option, Some, None, refl, sym, inl, ⊎_elim, arith, subst, slice_get}
 use Rattle.std.proofs.lemmas.Bool.{cases_Bool}
 use Rattle.app_model.specs.declared.body.Place.{Place}
 use Rattle.app_model.specs.declared.component.Edge.{Edge}
@@ -10,15 +10,15 @@ use Rattle.flow_model.specs.Acts.{act_at}
 use Rattle.flow_model.specs.Changes.{after, thrown}
 use Rattle.flow_model.specs.Derived.{Set, IsClosed}
 use Rattle.flow_model.specs.Entries.{site_at}
-use Rattle.flow_model.specs.Facts.{At, Exc}
+use Rattle.flow_model.specs.Facts.{At}
 use Rattle.flow_model.specs.Masks.{in_mask}
 use Rattle.flow_model.specs.Passes.{only, passes, throws}
-use Rattle.flow_model.specs.Rules.{Inner, I1, I2, I3, I3_leaves, entered}
+use Rattle.flow_model.specs.Rules.{Inner, I1, I2, I3, entered}
 use Rattle.flow_model.specs.Subject.{SubjectParts, status_masks, own_operation, passes_by, throws_by}
 use Rattle.run_model.specs.Heaps.{Value, Heap, status, is_lost, counter_at, cell}
-use Rattle.run_model.specs.Machine.{Callback, Frame, State, Running, Over, Uncaught, handlers_of, goes_to, goes_on, moved, throws_from}
+use Rattle.run_model.specs.Machine.{Callback, Frame, Running, handlers_of, goes_to, goes_on, moved, throws_from}
 use Rattle.run_model.specs.Relation.{AreTagged, Below, Each, IsCallback, IsHeap, IsInside, IsTop}
-use Rattle.run_model.specs.Tagged.{IsEntered, IsTagged}
+use Rattle.run_model.specs.Tagged.{IsTagged}
 use Rattle.run_model.proofs.Members.{each_append, each_if, each_map_at}
 use Rattle.run_model.proofs.Rows.{only_ok}
 use Rattle.run_model.proofs.Heaps.{status_is}

@@ -1,5 +1,5 @@
 -- Which objects a call can have as its receiver, by the names of types in the files.
-use Rattle.std.specs.Prelude.{ℕ, zero, suc, Bool, true, false, not, ◌&&◌, ◌||◌, ◌==◌, List, [], ◌∷◌, ◌++◌, map, length, Option, Some, None, option_map, option_to_list, slice_index, find, flat_map, is_some, bytes_eq, codes}
+use Rattle.std.specs.Prelude.{ℕ, zero, suc, Bool, false, not, ◌&&◌, ◌||◌, ◌==◌, List, [], ◌∷◌, ◌++◌, map, length, Option, Some, None, option_to_list, slice_index, find, flat_map, is_some, bytes_eq, codes}
 use Rattle.std.specs.List.{list_any}
 use Rattle.ns_base.specs.declared.rows.TypeNo.{TypeNo}
 use Rattle.app_model.specs.declared.rows.Named.{Named}

@@ -10,3 +10,6 @@ mod status;
 
 pub use laws::{held_statuses, soundness, soundness_inside};
 pub use status::{LockState, slot_status};
+
+#[cfg(test)]
+mod tests;
