@@ -6,6 +6,9 @@ use Rattle.app_model.specs.declared.component.Edge.{Edge}
 use Rattle.app_model.specs.declared.tag.Tag.{Tag}
 use Rattle.app_model.specs.Words.{place_at, successor_at, handler_at, handler_of, leaves_at}
 use Rattle.flow_model.specs.declared.act.Act.{Act}
+use Rattle.flow_model.specs.declared.act.Act.TheVariants.{Nop, ReturnVoid, TakeResult, WriteZero, WriteNonzero, WriteText, CheckCast, ReadStatic, WriteStatic, Call, Other}
+use Rattle.flow_model.proofs.MaskLaws.{IsIn-zero}
+use Rattle.std.proofs.Common.{get_or}
 use Rattle.flow_model.specs.Acts.{act_at}
 use Rattle.flow_model.specs.Changes.{after, thrown}
 use Rattle.flow_model.specs.Derived.{Set, IsClosed}
@@ -15,10 +18,10 @@ use Rattle.flow_model.specs.Masks.{in_mask}
 use Rattle.flow_model.specs.Passes.{only, passes, throws}
 use Rattle.flow_model.specs.Rules.{Inner, I1, I2, I3, entered}
 use Rattle.flow_model.specs.Subject.{SubjectParts, status_masks, own_operation, passes_by, throws_by}
-use Rattle.run_model.specs.Heaps.{Value, Heap, status, is_lost, counter_at, cell}
+use Rattle.run_model.specs.Heaps.{Value, Zero, Heap, status, is_lost, counter_at, cell}
 use Rattle.run_model.specs.Machine.{Callback, Frame, Running, handlers_of, goes_to, goes_on, moved, throws_from}
-use Rattle.run_model.specs.Relation.{AreTagged, Below, Each, IsCallback, IsHeap, IsInside, IsTop}
-use Rattle.run_model.specs.Tagged.{IsTagged}
+use Rattle.run_model.specs.Relation.{AreTagged, Below, Each, IsCallback, IsHeap, IsInside, IsTop, Means}
+use Rattle.run_model.specs.Tagged.{IsLive, IsTagged, can_throw, leads_on}
 use Rattle.run_model.proofs.Members.{each_append, each_if, each_map_at}
 use Rattle.run_model.proofs.Rows.{only_ok}
 use Rattle.run_model.proofs.Heaps.{status_is}
@@ -57,6 +60,36 @@ module _ (x : SubjectParts) (own : ℕ) (set : Set) (p : Premises x own set) whe
   abbrev pub Top : Heap → Frame → List Frame → Type 0
   Top h f rest = IsTop x own set p.root start_status h f rest
 
+  -- an instruction that is reached, and what it can do where a mask lets it
+  live : (h : Heap) (f : Frame) (rest : List Frame) → Top h f rest → IsLive (row_of f)
+  live h f rest t r lt bot = subst (λ (q : Tag). Means q (get_or f.registers r Zero) t.lo (length h.locks) h) bot (t.registers.each r lt)
+
+  leads : (a : Act) (row : List Tag) (k s t : ℕ) → in_mask (passes own a row k s) t ≡ true → leads_on a ≡ true
+  leads Nop row k s t mask = refl
+  leads ReturnVoid row k s t mask = absurd (IsIn-zero t mask)
+  leads (TakeResult to) row k s t mask = refl
+  leads (WriteZero to) row k s t mask = refl
+  leads (WriteNonzero to) row k s t mask = refl
+  leads (WriteText to) row k s t mask = refl
+  leads CheckCast row k s t mask = refl
+  leads (ReadStatic to slot) row k s t mask = refl
+  leads (WriteStatic from slot) row k s t mask = refl
+  leads (Call usage arguments given) row k s t mask = refl
+  leads Other row k s t mask = absurd (IsIn-zero t mask)
+
+  throwing : (a : Act) (row : List Tag) (s t : ℕ) → in_mask (throws own a row s) t ≡ true → can_throw a ≡ true
+  throwing CheckCast row s t mask = refl
+  throwing (Call usage arguments given) row s t mask = refl
+  throwing Nop row s t mask = absurd (IsIn-zero t mask)
+  throwing ReturnVoid row s t mask = absurd (IsIn-zero t mask)
+  throwing (TakeResult to) row s t mask = absurd (IsIn-zero t mask)
+  throwing (WriteZero to) row s t mask = absurd (IsIn-zero t mask)
+  throwing (WriteNonzero to) row s t mask = absurd (IsIn-zero t mask)
+  throwing (WriteText to) row s t mask = absurd (IsIn-zero t mask)
+  throwing (ReadStatic to slot) row s t mask = absurd (IsIn-zero t mask)
+  throwing (WriteStatic from slot) row s t mask = absurd (IsIn-zero t mask)
+  throwing Other row s t mask = absurd (IsIn-zero t mask)
+
   -- the fact at a successor
   next_at : (m e i s j t k : ℕ) (a : Act) → act_at x.app m i ≡ Some a → successor_at x.app m i k ≡ Some j → in_mask (passes own a (x.tags m i) k s) t ≡ true → set (At m e i s) ≡ true → set (At m e j t) ≡ true
   next_at m e i s j t k a is next mask here =
@@ -82,7 +115,7 @@ module _ (x : SubjectParts) (own : ℕ) (set : Set) (p : Premises x own set) whe
           from = omega (arith, t.from);
           entered = t.entered;
           at = next_at f.method t.e f.index (status h own) j (status h' own) k a is eq mask t.at;
-          registers = tagged_under _ values t.lo (length h'.locks) h' tagged (x.tags f.method j) (p.tagged.flows f.method f.index k j a t.entered is eq);
+          registers = tagged_under _ values t.lo (length h'.locks) h' tagged (x.tags f.method j) (p.tagged.flows f.method f.index k j a t.entered (live h f rest t) is (leads a (row_of f) k (status h own) (status h' own) mask) eq);
           below = below_kept x set p.root start_status h h' rest f.method t.e t.lo t.below;
         };
       }
@@ -111,7 +144,7 @@ module _ (x : SubjectParts) (own : ℕ) (set : Set) (p : Premises x own set) whe
           from = t.from;
           entered = t.entered;
           at = p.closed.by _ _ (inl (I3 k eq by_act)) (t.at, tt);
-          registers = tagged_under _ f.registers t.lo (length h.locks) h tagged (x.tags f.method i) (p.tagged.throws f.method f.index k i a t.entered is eq);
+          registers = tagged_under _ f.registers t.lo (length h.locks) h tagged (x.tags f.method i) (p.tagged.throws f.method f.index k i a t.entered (live h f rest t) is (throwing a (row_of f) (status h own) (status h own) mask) eq);
           below = t.below;
         };
       }
