@@ -1,0 +1,163 @@
+-- The start of a callback, and its end.
+use Rattle.std.proofs.Common.{◌≡◌, ℕ, zero, suc, ◌+◌, ◌<◌, Bool, true, false, if◌then◌else◌, List, [], ◌∷◌, length, Option, Some, None, refl, sym, ap, ◌∙◌, inr, ⊎_elim, arith, subst, subst₂}
+use Rattle.std.specs.Prelude.{slice_get, slice_index, slice_set as set_at, ◌==◌}
+use Rattle.std.proofs.lemmas.Bool.{cases_Bool, eqb-true, false_from_ne_true}
+use Rattle.std.proofs.lemmas.List.{get_or-set_same, length-set}
+use Rattle.app_model.specs.declared.component.Edge.{Edge}
+use Rattle.app_model.specs.Components.{ComponentParts, edges_of, edge_of, edge_at, callback_at, exits_at}
+use Rattle.flow_model.specs.Derived.{Set, IsClosed}
+use Rattle.flow_model.specs.Entries.{entry_row}
+use Rattle.flow_model.specs.Facts.{At, View, Ret}
+use Rattle.flow_model.specs.Policy.{AnswersFor, MeetsPolicy, is_held}
+use Rattle.flow_model.specs.Masks.{in_mask}
+use Rattle.flow_model.specs.Rules.{Inner, Between, V3, V4, by_method, entered, cleared}
+use Rattle.flow_model.specs.Subject.{SubjectParts, status_masks}
+use Rattle.run_model.specs.Heaps.{Value, Heap, status, with_cleared, cleared_cells, is_lost, counter_at, cell, status_of}
+use Rattle.run_model.specs.Machine.{Callback, Running, edge_starts, starts, begins, is_cleared, entered_frame, entries_of, this_of}
+use Rattle.run_model.specs.Relation.{AreTagged, AreViews, Each, ExitsWell, IsCallback, IsEnded, IsHeap, IsIdle, IsInside}
+use Rattle.run_model.specs.Tagged.{IsEntered, IsTagged}
+use Rattle.run_model.proofs.Members.{each_append, each_if, each_map}
+use Rattle.run_model.proofs.Rows.{cleared_ok}
+use Rattle.run_model.proofs.Heaps.{emptied_status, kept_status, held_above, status_is, cleared_cell, uncleared_cell, cleared_heap}
+use Rattle.run_model.proofs.Registers.{tagged_under}
+use Rattle.run_model.proofs.Entries.{entries_ok}
+
+none_some : {A : Type 0} (a : A) (o : Option A) → o ≡ None → o ≡ Some a → ⊥
+none_some a o p q = absurd (let e = sym p ∙ q in cc)
+
+-- an edge is of a component that is there
+component_in : (list : List ComponentParts) (c e : ℕ) (edge : Edge) → edge_of (slice_get list c) e ≡ Some edge → c < length list
+component_in [] c e edge is = absurd (none_some edge None refl is)
+component_in (x ∷ list) zero e edge is = omega arith
+component_in (x ∷ list) (suc c) e edge is = omega (arith, component_in list c e edge is)
+
+pub component_there : (list : List ComponentParts) (c e : ℕ) (edge : Edge) → edge_at list c e ≡ Some edge → c < length list
+unfolding edge_at
+component_there list c e edge is = component_in list c e edge is
+
+-- ---- the status after an edge's clearing
+if_true : (b : Bool) (s t : ℕ) → b ≡ true → (if b then s else t) ≡ s
+if_true true s t e = refl
+if_true false s t e = cc
+
+if_false : (b : Bool) (s t : ℕ) → b ≡ false → (if b then s else t) ≡ t
+if_false true s t e = cc
+if_false false s t e = refl
+
+entered_status : (x : SubjectParts) (own c : ℕ) (edge : Edge) (n : ℕ) (h : Heap) → IsHeap n h → status (with_cleared h (is_cleared x c edge)) own ≡ entered x own c edge (status h own)
+entered_status x own c edge n h ok =
+    ⊎_elim
+    (λ yes_cleared.
+    emptied_status h (cleared_cells (is_cleared x c edge) 0 h.cells) own (cleared_cell h (is_cleared x c edge) own yes_cleared)
+    ∙ ap (λ b. status_of b None) (held_above h own n ok)
+    ∙ sym (cleared_ok (is_lost h own) (counter_at h (cell h own)))
+    ∙ ap cleared (sym (status_is h own))
+    ∙ sym (if_true (is_cleared x c edge own) (cleared (status h own)) (status h own) yes_cleared))
+    (λ not_cleared.
+    kept_status h (cleared_cells (is_cleared x c edge) 0 h.cells) own (uncleared_cell h (is_cleared x c edge) own not_cleared)
+    ∙ sym (if_false (is_cleared x c edge own) (cleared (status h own)) (status h own) not_cleared))
+    (cases_Bool (is_cleared x c edge own))
+
+-- ---- the starts of callbacks
+module _ (x : SubjectParts) (own : ℕ) (set : Set) (tg : IsTagged x) (cl : IsClosed (Inner x own (status_masks x own)) set) (states : List ℕ) (h : Heap) (idle : IsIdle x own set states h) where
+  begin_one : (c e : ℕ) (edge : Edge) (m : ℕ) → edge_at x.list c e ≡ Some edge → edge.from ≡ slice_index states c → callback_at x.list c edge.callback ≡ Some m → (values : List Value) → AreTagged (entry_row (slice_get x.app.methods m)) values (length h.locks) (length h.locks) (with_cleared h (is_cleared x c edge))
+      → IsInside x own set (Running (record { states = states; component = c; edge = e }) (with_cleared h (is_cleared x c edge)) (entered_frame m values ∷ []))
+  begin_one c e edge m there from method values tagged =
+      let lt = component_there x.list c e edge there in
+      let is_method : IsEntered x m = record { component = c; callback = edge.callback; is = method } in
+      let view = idle.views.each c lt in
+      let entry = cl.by _ _ (inr (V3 e there from method)) (view, tt) in
+      let now = entered_status x own c edge (length x.app.locks) h idle.heap in
+      record {
+        edge = edge;
+        root = m;
+        s0 = status h own;
+        callback = record { views = idle.views; component = lt; there = there; from = from; method = method };
+        heap = cleared_heap h (is_cleared x c edge) (length x.app.locks) idle.heap;
+        stack = record {
+          e = entered x own c edge (status h own);
+          lo = length h.locks;
+          from = omega arith;
+          entered = is_method;
+          at = subst (λ s. set (At m (entered x own c edge (status h own)) 0 s) ≡ true) (sym now) entry;
+          registers = tagged_under _ values (length h.locks) (length h.locks) (with_cleared h (is_cleared x c edge)) tagged (x.tags m 0) (tg.entries m is_method);
+          below = (refl, refl);
+        };
+      }
+
+  begins_ok : (c e : ℕ) (edge : Edge) → edge_at x.list c e ≡ Some edge → edge.from ≡ slice_index states c → (o : Option ℕ) → callback_at x.list c edge.callback ≡ o → Each (IsInside x own set) (begins x states h c e edge o)
+  begins_ok c e edge there from None none = absurd (let m = tg.has_callbacks c e edge there in none_some m.0 _ none m.1)
+  begins_ok c e edge there from (Some m) method =
+      each_map (λ values. AreTagged (entry_row (slice_get x.app.methods m)) values (length h.locks) (length h.locks) (with_cleared h (is_cleared x c edge))) (IsInside x own set) _
+      (begin_one c e edge m there from method) (entries_of x.app (this_of x.app (slice_get x.list c)) (slice_get x.app.methods m))
+      (entries_ok (length h.locks) (length h.locks) (with_cleared h (is_cleared x c edge)) x.app (slice_get x.list c) (slice_get x.app.methods m))
+
+  edge_starts_ok : (c e : ℕ) (edges : List Edge) → ((i : ℕ) (edge : Edge) → slice_get edges i ≡ Some edge → edge_at x.list c (e + i) ≡ Some edge) → Each (IsInside x own set) (edge_starts x states h c e edges)
+  edge_starts_ok c e [] at = tt
+  edge_starts_ok c e (edge ∷ edges) at =
+      let here : edge_at x.list c e ≡ Some edge = ap (edge_at x.list c) (let z : e ≡ e + 0 = omega arith in z) ∙ at 0 edge refl in
+      let more : (i : ℕ) (y : Edge) → slice_get edges i ≡ Some y → edge_at x.list c (suc e + i) ≡ Some y = λ i y is. ap (edge_at x.list c) (let z : suc e + i ≡ e + suc i = omega arith in z) ∙ at (suc i) y is in
+      each_append (IsInside x own set) (if edge.from == slice_index states c then begins x states h c e edge (callback_at x.list c edge.callback) else []) _
+      (each_if (IsInside x own set) (edge.from == slice_index states c) _ [] (λ same. begins_ok c e edge here (eqb-true edge.from (slice_index states c) same) (callback_at x.list c edge.callback) refl) (λ _. tt))
+      (edge_starts_ok c (suc e) edges more)
+
+  starts_ok : (c : ℕ) (list : List ComponentParts) → ((i : ℕ) → slice_get list i ≡ slice_get x.list (c + i)) → Each (IsInside x own set) (starts x states h c list)
+  unfolding edge_at
+  starts_ok c [] at = tt
+  starts_ok c (component ∷ list) at =
+      let here : Some component ≡ slice_get x.list c = at 0 ∙ ap (slice_get x.list) (let z : c + 0 ≡ c = omega arith in z) in
+      let more : (i : ℕ) → slice_get list i ≡ slice_get x.list (suc c + i) = λ i. at (suc i) ∙ ap (slice_get x.list) (let z : c + suc i ≡ suc c + i = omega arith in z) in
+      each_append (IsInside x own set) (edge_starts x states h c 0 (edges_of component.kind)) _
+      (edge_starts_ok c 0 (edges_of component.kind) (λ i edge is. ap (λ o. edge_of o (0 + i)) (sym here) ∙ ap (slice_get (edges_of component.kind)) (let z : 0 + i ≡ i = omega arith in z) ∙ is))
+      (starts_ok (suc c) list more)
+
+  pub idle_ok : Each (IsInside x own set) (starts x states h 0 x.list)
+  idle_ok = starts_ok 0 x.list (λ i. ap (slice_get x.list) (let z : i ≡ 0 + i = omega arith in z))
+
+-- ---- the end of a callback
+module _ (x : SubjectParts) (own : ℕ) (set : Set) (tg : IsTagged x) (cl : IsClosed (Between x own) set) where
+  -- what its component may be in; there is no other one
+  end_views : (before : Callback) (edge : Edge) (root s0 t : ℕ) → IsCallback x set before edge root s0 → set (Ret root (entered x own before.component edge s0) t) ≡ true → AreViews x set (set_at before.states before.component edge.to) t
+  end_views before edge root s0 t cb ret =
+      let within : before.component < length before.states = omega (arith, cb.views.count, cb.component) in
+      let to : slice_index (set_at before.states before.component edge.to) before.component ≡ edge.to = get_or-set_same before.states before.component edge.to 0 within in
+      let own_view = cb.views.each before.component cb.component in
+      let next : set (View before.component edge.to t) ≡ true = cl.by _ _ (V4 before.edge cb.there cb.from refl (by_method root cb.method)) (own_view, (ret, tt)) in
+      record {
+        count = length-set before.states before.component edge.to ∙ cb.views.count;
+        each = λ d lt.
+            let same : d ≡ before.component = omega (arith, tg.alone, cb.component) in
+            subst (λ n. set (View n (slice_index (set_at before.states before.component edge.to) n) t) ≡ true) (sym same)
+            (subst (λ q. set (View before.component q t) ≡ true) (sym to) next);
+      }
+
+  pub end_ok : own < length x.app.locks → MeetsPolicy x own set → (at : Callback) (h : Heap) → IsEnded x own set at h → IsIdle x own set at.states h × ExitsWell x own at h
+  end_ok lt mp at h d =
+      let cb = d.callback in
+      let views = end_views d.before d.edge d.root d.s0 (status h own) cb d.ret in
+      let own_view = cb.views.each d.before.component cb.component in
+      let exit : ExitsWell x own d.before h = λ other is yes_exit answers.
+      (let there = cb.there in
+      let alike : d.edge ≡ other = cc in
+      let yes_exit' : in_mask (exits_at x.list d.before.component) d.edge.callback ≡ true = subst (λ (y : Edge). in_mask (exits_at x.list d.before.component) y.callback ≡ true) (sym alike) yes_exit in
+      false_from_ne_true (is_held (status h own)) (λ bad.
+      mp d.before.component d.edge.callback (status h own)
+      (record {
+        state = slice_index d.before.states d.before.component;
+        before = d.s0;
+        number = d.before.edge;
+        edge = d.edge;
+        needs = Ret d.root (entered x own d.before.component d.edge d.s0) (status h own) ∷ [];
+        lock = lt;
+        there = there;
+        from = cb.from;
+        callback = refl;
+        carries = by_method d.root cb.method;
+        holds = (own_view, (d.ret, tt));
+        exit = yes_exit';
+        held = bad;
+        answers = answers;
+      }))) in (
+        record { views = subst (λ states. AreViews x set states (status h own)) (sym d.states) views; heap = d.heap },
+        λ other is yes_exit answers. exit other (subst₂ (λ c e. edge_at x.list c e ≡ Some other) (sym d.same_component) (sym d.same_edge) is) (subst (λ c. in_mask (exits_at x.list c) other.callback ≡ true) (sym d.same_component) yes_exit) (subst (λ c. AnswersFor x c own) (sym d.same_component) answers),
+      )

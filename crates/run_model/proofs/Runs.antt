@@ -1,0 +1,105 @@
+-- Every step keeps the relation, and so does every run.
+use Rattle.std.proofs.Common.{Option, get_or, zero, suc, replicate, None, ◌≡◌, ℕ, ◌<◌, ◌%◌, List, [], ◌∷◌, length, refl, sym, inl, inr, ◌∙◌}
+use Rattle.std.proofs.lemmas.List.{length-replicate, get_or-replicate}
+use Rattle.flow_model.specs.Acts.{act_at}
+use Rattle.flow_model.specs.Derived.{Set, IsClosed}
+use Rattle.flow_model.specs.Policy.{MeetsPolicy}
+use Rattle.flow_model.specs.Rules.{Between, Inner, Rules, V1}
+use Rattle.flow_model.specs.Subject.{SubjectParts, status_masks}
+use Rattle.run_model.specs.Heaps.{Heap, cell, is_lost, lock_at, status}
+use Rattle.run_model.specs.Machine.{Callback, Frame, State, Idle, Running, AtEnd, Over, options_of, run_from, run_of, start_of, step}
+use Rattle.run_model.specs.Relation.{Each, IsHeap, IsIdle, IsInside, IsSound}
+use Rattle.run_model.specs.Soundness.{LeavesNoneHeld, StandsWell}
+use Rattle.run_model.specs.Tagged.{IsTagged}
+use Rattle.run_model.proofs.Heaps.{held_exactly}
+use Rattle.std.proofs.lemmas.Bool.{false≢true}
+use Rattle.run_model.proofs.Members.{each_get, each_weaker}
+use Rattle.run_model.proofs.Callbacks.{end_ok, idle_ok}
+use Rattle.run_model.proofs.Instructions.{act_ok}
+
+-- ---- the heap at the start
+abbrev no_lock : Option ℕ
+no_lock = None
+
+abbrev empty : ℕ → Heap
+empty n = record { cells = replicate n no_lock; locks = [] }
+
+get_none : (n l : ℕ) → get_or (replicate n no_lock) l no_lock ≡ no_lock
+get_none zero l = refl
+get_none (suc n) zero = refl
+get_none (suc n) (suc l) = get_none n l
+
+empty_cell : (n l : ℕ) → cell (empty n) l ≡ None
+unfolding cell
+empty_cell n l = get_none n l
+
+empty_heap : (n : ℕ) → IsHeap n (empty n)
+unfolding lock_at
+empty_heap n = record { count = length-replicate n no_lock; cell = λ l i e. absurd (let none = empty_cell n l in cc); unheld = λ i f. refl; counted = λ i f. refl }
+
+empty_status : (n l : ℕ) → status (empty n) l ≡ 0
+unfolding status is_lost
+empty_status n l = rw (empty_cell n l) refl
+
+-- ---- inside callbacks
+pub starts_law : (x : SubjectParts) (l : ℕ) (set : Set) → IsTagged x → IsClosed (Inner x l (status_masks x l)) set → (states : List ℕ) (h : Heap) → IsIdle x l set states h → Each (IsInside x l set) (options_of x (Idle states h))
+starts_law x l set tg cl states h idle = idle_ok x l set tg cl states h idle
+
+pub steps_law : (x : SubjectParts) (l : ℕ) (set : Set) → IsTagged x → IsClosed (Inner x l (status_masks x l)) set → (at : Callback) (h : Heap) (frames : List Frame) → IsInside x l set (Running at h frames) → Each (IsInside x l set) (options_of x (Running at h frames))
+steps_law x l set tg cl at h [] ok = absurd ok.stack
+steps_law x l set tg cl at h (f ∷ rest) ok =
+    act_ok x l set (record { tagged = tg; closed = cl; at = at; edge = ok.edge; root = ok.root; s0 = ok.s0; callback = ok.callback }) h ok.heap f rest ok.stack (act_at x.app f.method f.index) refl
+
+-- ---- all rules
+module _ (x : SubjectParts) (l : ℕ) (set : Set) (tg : IsTagged x) (lt : l < length x.app.locks) (cl : IsClosed (Rules x l) set) (mp : MeetsPolicy x l set) where
+  inner : IsClosed (Inner x l (status_masks x l)) set
+  inner = record { by = λ needs f r has. cl.by needs f (inl r) has }
+
+  outer : IsClosed (Between x l) set
+  outer = record { by = λ needs f r has. cl.by needs f (inr r) has }
+
+  inside_sound : (s : State) → IsInside x l set s → IsSound x l set s
+  inside_sound (Idle states h) ok = absurd ok
+  inside_sound (Running at h frames) ok = ok
+  inside_sound (AtEnd at h) ok = end_ok x l set tg outer lt mp at h ok
+  inside_sound (Over why) ok = ok
+
+  options_ok : (s : State) → IsSound x l set s → Each (IsSound x l set) (options_of x s)
+  options_ok (Idle states h) ok = each_weaker (IsInside x l set) (IsSound x l set) inside_sound _ (starts_law x l set tg inner states h ok)
+  options_ok (Running at h frames) ok = each_weaker (IsInside x l set) (IsSound x l set) inside_sound _ (steps_law x l set tg inner at h frames ok)
+  options_ok (AtEnd at h) ok = (ok.0, tt)
+  options_ok (Over why) ok = (ok, tt)
+
+  step_ok : (k : ℕ) (s : State) → IsSound x l set s → IsSound x l set (step x k s)
+  step_ok k s ok = each_get (IsSound x l set) (options_of x s) (k % length (options_of x s)) s (options_ok s ok) ok
+
+  run_ok : (ks : List ℕ) (s : State) → IsSound x l set s → IsSound x l set (run_from x s ks)
+  run_ok [] s ok = ok
+  run_ok (k ∷ ks) s ok = run_ok ks (step x k s) (step_ok k s ok)
+
+  start_ok : IsSound x l set (start_of x)
+  start_ok = record {
+    views = record {
+      count = length-replicate (length x.list) 0;
+      each = λ c within. rw (empty_status (length x.app.locks) l, get_or-replicate {A = ℕ} (length x.list) c 0 0 within) (outer.by _ _ (V1 within) tt);
+    };
+    heap = empty_heap (length x.app.locks);
+  }
+
+  stands : (s : State) → IsSound x l set s → StandsWell x l s
+  stands (Idle states h) ok = tt
+  stands (Running at h frames) ok = tt
+  stands (AtEnd at h) ok = ok.1
+  stands (Over why) ok = ok
+
+  pub runs_law : (choices : List ℕ) → StandsWell x l (run_of x choices)
+  runs_law choices = stands _ (run_ok choices (start_of x) start_ok)
+
+  leaves : (s : State) → IsSound x l set s → LeavesNoneHeld x l s
+  leaves (Idle states h) ok = tt
+  leaves (Running at h frames) ok = tt
+  leaves (AtEnd at h) ok = λ edge there exit answers holds. false≢true (sym (ok.1 edge there exit answers) ∙ (held_exactly h l (length x.app.locks) ok.0.heap).1 holds)
+  leaves (Over why) ok = tt
+
+  pub counts_law : (choices : List ℕ) → LeavesNoneHeld x l (run_of x choices)
+  counts_law choices = leaves _ (run_ok choices (start_of x) start_ok)

@@ -1,0 +1,162 @@
+-- What carries every instruction: on to a successor, and a throw.
+use Rattle.std.proofs.Common.{◌≡◌, ℕ, ◌≤◌, true, List, [], ◌∷◌, map, length, Option, Some, None, refl, sym, inl, ⊎_elim, arith, subst, slice_get}
+use Rattle.std.proofs.lemmas.Bool.{cases_Bool}
+use Rattle.app_model.specs.declared.body.Place.{Place}
+use Rattle.app_model.specs.declared.component.Edge.{Edge}
+use Rattle.app_model.specs.declared.tag.Tag.{Tag}
+use Rattle.app_model.specs.Words.{place_at, successor_at, handler_at, handler_of, leaves_at}
+use Rattle.flow_model.specs.declared.act.Act.{Act}
+use Rattle.flow_model.specs.declared.act.Act.TheVariants.{Nop, ReturnVoid, TakeResult, WriteZero, WriteNonzero, WriteText, CheckCast, ReadStatic, WriteStatic, Call, Other}
+use Rattle.flow_model.proofs.MaskLaws.{IsIn-zero}
+use Rattle.std.proofs.Common.{get_or}
+use Rattle.flow_model.specs.Acts.{act_at}
+use Rattle.flow_model.specs.Changes.{after, thrown}
+use Rattle.flow_model.specs.Derived.{Set, IsClosed}
+use Rattle.flow_model.specs.Entries.{site_at}
+use Rattle.flow_model.specs.Facts.{At}
+use Rattle.flow_model.specs.Masks.{in_mask}
+use Rattle.flow_model.specs.Passes.{only, passes, throws}
+use Rattle.flow_model.specs.Rules.{Inner, I1, I2, I3, entered}
+use Rattle.flow_model.specs.Subject.{SubjectParts, status_masks, own_operation, passes_by, throws_by}
+use Rattle.run_model.specs.Heaps.{Value, Zero, Heap, status, is_lost, counter_at, cell}
+use Rattle.run_model.specs.Machine.{Callback, Frame, Running, handlers_of, goes_to, goes_on, moved, throws_from}
+use Rattle.run_model.specs.Relation.{AreTagged, Below, Each, IsCallback, IsHeap, IsInside, IsTop, Means}
+use Rattle.run_model.specs.Tagged.{IsLive, IsTagged, can_throw, leads_on}
+use Rattle.run_model.proofs.Members.{each_append, each_if, each_map_at}
+use Rattle.run_model.proofs.Rows.{only_ok}
+use Rattle.run_model.proofs.Heaps.{status_is}
+use Rattle.run_model.proofs.Registers.{tagged_under}
+
+-- what the steps of a callback stand on
+pub record Premises (x : SubjectParts) (own : ℕ) (set : Set) : Type 0 where
+  pub tagged : IsTagged x
+  pub closed : IsClosed (Inner x own (status_masks x own)) set
+  pub at : Callback
+  pub edge : Edge
+  pub root : ℕ
+  pub s0 : ℕ
+  pub callback : IsCallback x set at edge root s0
+
+-- no frame waits yet
+pub below_kept : (x : SubjectParts) (set : Set) (root s0 : ℕ) (h h' : Heap) (frames : List Frame) (n es hi : ℕ) → Below x set root s0 h frames n es hi → Below x set root s0 h' frames n es hi
+below_kept x set root s0 h h' [] n es hi b = b
+below_kept x set root s0 h h' (f ∷ rest) n es hi b = absurd (b.2.call)
+
+handler_numbered : (p : Option Place) (k i : ℕ) → slice_get (handlers_of p) k ≡ Some i → handler_of p k ≡ Some i
+handler_numbered None k i e = e
+handler_numbered (Some place) k i e = e
+
+pub only_status : (h : Heap) (l : ℕ) → in_mask (only (status h l)) (status h l) ≡ true
+only_status h l = rw (status_is h l) (only_ok (is_lost h l) (counter_at h (cell h l)))
+
+module _ (x : SubjectParts) (own : ℕ) (set : Set) (p : Premises x own set) where
+  -- the tags before a frame's instruction, and the status at which its callback was entered
+  abbrev pub row_of : Frame → List Tag
+  row_of f = x.tags f.method f.index
+
+  abbrev pub start_status : ℕ
+  start_status = entered x own p.at.component p.edge p.s0
+
+  abbrev pub Top : Heap → Frame → List Frame → Type 0
+  Top h f rest = IsTop x own set p.root start_status h f rest
+
+  -- an instruction that is reached, and what it can do where a mask lets it
+  live : (h : Heap) (f : Frame) (rest : List Frame) → Top h f rest → IsLive (row_of f)
+  live h f rest t r lt bot = subst (λ (q : Tag). Means q (get_or f.registers r Zero) t.lo (length h.locks) h) bot (t.registers.each r lt)
+
+  leads : (a : Act) (row : List Tag) (k s t : ℕ) → in_mask (passes own a row k s) t ≡ true → leads_on a ≡ true
+  leads Nop row k s t mask = refl
+  leads ReturnVoid row k s t mask = absurd (IsIn-zero t mask)
+  leads (TakeResult to) row k s t mask = refl
+  leads (WriteZero to) row k s t mask = refl
+  leads (WriteNonzero to) row k s t mask = refl
+  leads (WriteText to) row k s t mask = refl
+  leads CheckCast row k s t mask = refl
+  leads (ReadStatic to slot) row k s t mask = refl
+  leads (WriteStatic from slot) row k s t mask = refl
+  leads (Call usage arguments given) row k s t mask = refl
+  leads Other row k s t mask = absurd (IsIn-zero t mask)
+
+  throwing : (a : Act) (row : List Tag) (s t : ℕ) → in_mask (throws own a row s) t ≡ true → can_throw a ≡ true
+  throwing CheckCast row s t mask = refl
+  throwing (Call usage arguments given) row s t mask = refl
+  throwing Nop row s t mask = absurd (IsIn-zero t mask)
+  throwing ReturnVoid row s t mask = absurd (IsIn-zero t mask)
+  throwing (TakeResult to) row s t mask = absurd (IsIn-zero t mask)
+  throwing (WriteZero to) row s t mask = absurd (IsIn-zero t mask)
+  throwing (WriteNonzero to) row s t mask = absurd (IsIn-zero t mask)
+  throwing (WriteText to) row s t mask = absurd (IsIn-zero t mask)
+  throwing (ReadStatic to slot) row s t mask = absurd (IsIn-zero t mask)
+  throwing (WriteStatic from slot) row s t mask = absurd (IsIn-zero t mask)
+  throwing Other row s t mask = absurd (IsIn-zero t mask)
+
+  -- the fact at a successor
+  next_at : (m e i s j t k : ℕ) (a : Act) → act_at x.app m i ≡ Some a → successor_at x.app m i k ≡ Some j → in_mask (passes own a (x.tags m i) k s) t ≡ true → set (At m e i s) ≡ true → set (At m e j t) ≡ true
+  next_at m e i s j t k a is next mask here =
+      let by_act : in_mask (passes_by own (act_at x.app m i) (x.tags m i) k s) t ≡ true = subst (λ (o : Option Act). in_mask (passes_by own o (x.tags m i) k s) t ≡ true) (sym is) mask in
+      ⊎_elim (λ own_one. p.closed.by _ _ (inl (I2 k own_one next by_act)) (here, tt)) (λ other. p.closed.by _ _ (inl (I1 k other next by_act)) (here, tt)) (cases_Bool (own_operation x own m i))
+
+  -- on to a successor, with what the instruction left
+  pub goes_ok : (h h' : Heap) (f : Frame) (rest : List Frame) (values : List Value) (a : Act) (k : ℕ) (t : Top h f rest) → IsHeap (length x.app.locks) h' → act_at x.app f.method f.index ≡ Some a → length h.locks ≤ length h'.locks
+      → in_mask (passes own a (row_of f) k (status h own)) (status h' own) ≡ true → AreTagged (after (site_at x.app f.method f.index) a (row_of f)) values t.lo (length h'.locks) h' → IsInside x own set (goes_on x p.at h' f rest values k)
+  goes_ok h h' f rest values a k t ok is le mask tagged = to (successor_at x.app f.method f.index k) refl
+    where
+      to : (o : Option ℕ) → successor_at x.app f.method f.index k ≡ o → IsInside x own set (goes_to p.at h' f rest values o)
+      to None eq = tt
+      to (Some j) eq = record {
+        edge = p.edge;
+        root = p.root;
+        s0 = p.s0;
+        callback = p.callback;
+        heap = ok;
+        stack = record {
+          e = t.e;
+          lo = t.lo;
+          from = omega (arith, t.from);
+          entered = t.entered;
+          at = next_at f.method t.e f.index (status h own) j (status h' own) k a is eq mask t.at;
+          registers = tagged_under _ values t.lo (length h'.locks) h' tagged (x.tags f.method j) (p.tagged.flows f.method f.index k j a t.entered (live h f rest t) is (leads a (row_of f) k (status h own) (status h' own) mask) eq);
+          below = below_kept x set p.root start_status h h' rest f.method t.e t.lo t.below;
+        };
+      }
+
+  -- an instruction that leaves the heap as it is
+  pub quiet_ok : (h : Heap) (ok : IsHeap (length x.app.locks) h) (f : Frame) (rest : List Frame) (values : List Value) (a : Act) (k : ℕ) (t : Top h f rest) → act_at x.app f.method f.index ≡ Some a
+      → in_mask (passes own a (row_of f) k (status h own)) (status h own) ≡ true → AreTagged (after (site_at x.app f.method f.index) a (row_of f)) values t.lo (length h.locks) h → IsInside x own set (goes_on x p.at h f rest values k)
+  quiet_ok h ok f rest values a k t is mask tagged = goes_ok h h f rest values a k t ok is (omega arith) mask tagged
+
+  -- ---- throws
+  -- a handler that is reached
+  handler_ok : (h : Heap) (ok : IsHeap (length x.app.locks) h) (f : Frame) (rest : List Frame) (a : Act) (t : Top h f rest) → act_at x.app f.method f.index ≡ Some a
+      → in_mask (throws own a (row_of f) (status h own)) (status h own) ≡ true → AreTagged (thrown a (row_of f)) f.registers t.lo (length h.locks) h
+      → (k i : ℕ) → handler_at x.app f.method f.index k ≡ Some i → IsInside x own set (Running p.at h (moved f i f.registers ∷ rest))
+  handler_ok h ok f rest a t is mask tagged k i eq =
+      let by_act : in_mask (throws_by own (act_at x.app f.method f.index) (row_of f) (status h own)) (status h own) ≡ true = subst (λ (o : Option Act). in_mask (throws_by own o (row_of f) (status h own)) (status h own) ≡ true) (sym is) mask in
+      record {
+        edge = p.edge;
+        root = p.root;
+        s0 = p.s0;
+        callback = p.callback;
+        heap = ok;
+        stack = record {
+          e = t.e;
+          lo = t.lo;
+          from = t.from;
+          entered = t.entered;
+          at = p.closed.by _ _ (inl (I3 k eq by_act)) (t.at, tt);
+          registers = tagged_under _ f.registers t.lo (length h.locks) h tagged (x.tags f.method i) (p.tagged.throws f.method f.index k i a t.entered (live h f rest t) is (throwing a (row_of f) (status h own) (status h own) mask) eq);
+          below = t.below;
+        };
+      }
+
+  -- a throw in the frames below the one that runs: there is none yet
+  left_ok : (h : Heap) (rest : List Frame) (n es hi : ℕ) → Below x set p.root start_status h rest n es hi → Each (IsInside x own set) (throws_from x p.at h rest)
+  left_ok h [] n es hi b = (tt, tt)
+  left_ok h (g ∷ rest) n es hi b = absurd (b.2.call)
+
+  pub throws_ok : (h : Heap) (ok : IsHeap (length x.app.locks) h) (f : Frame) (rest : List Frame) (a : Act) (t : Top h f rest) → act_at x.app f.method f.index ≡ Some a
+      → in_mask (throws own a (row_of f) (status h own)) (status h own) ≡ true → AreTagged (thrown a (row_of f)) f.registers t.lo (length h.locks) h → Each (IsInside x own set) (throws_from x p.at h (f ∷ rest))
+  throws_ok h ok f rest a t is mask tagged =
+      each_append (IsInside x own set) (map (λ i. Running p.at h (moved f i f.registers ∷ rest)) (handlers_of (place_at x.app f.method f.index))) _
+      (each_map_at (IsInside x own set) _ (handlers_of (place_at x.app f.method f.index)) (λ k i eq. handler_ok h ok f rest a t is mask tagged k i (handler_numbered (place_at x.app f.method f.index) k i eq)))
+      (each_if (IsInside x own set) (leaves_at x.app f.method f.index) (throws_from x p.at h rest) [] (λ _. left_ok h rest f.method t.e t.lo t.below) (λ _. tt))

@@ -1,0 +1,8 @@
+use Rattle.run_model.proofs.Runs.{counts_law, runs_law}
+use Rattle.run_model.proofs.laws.soundness.Goals as goal
+
+pub returns-clause-runs : goal.returns-clause-runs
+returns-clause-runs c = runs_law
+
+pub returns-clause-counts : goal.returns-clause-counts
+returns-clause-counts c = counts_law

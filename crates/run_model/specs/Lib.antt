@@ -1,0 +1,7 @@
+pub mod Heaps
+pub mod States
+pub mod Types
+pub mod Machine
+pub mod Tagged
+pub mod Relation
+pub mod Soundness

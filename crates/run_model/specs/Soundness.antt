@@ -1,0 +1,32 @@
+-- What the theorem says of the state in which a run stands.
+use Rattle.std.specs.Prelude.{ℕ, ◌≡◌, ◌<◌, true, Some}
+use Rattle.app_model.specs.declared.component.Edge.{Edge}
+use Rattle.app_model.specs.Components.{edge_at, exits_at}
+use Rattle.flow_model.specs.Masks.{in_mask}
+use Rattle.flow_model.specs.Policy.{AnswersFor}
+use Rattle.flow_model.specs.Subject.{SubjectParts}
+use Rattle.run_model.specs.Heaps.{Heap, lock_at}
+use Rattle.run_model.specs.Machine.{State, Idle, Running, AtEnd, Over}
+use Rattle.run_model.specs.Relation.{ExitsWell, NoEscape}
+
+-- the machine stands at no exit of a component that answers for l with a held status of l, and no lock has escaped
+abbrev pub StandsWell : SubjectParts → ℕ → State → Type 0
+StandsWell x l (Idle states h) = Unit {0}
+StandsWell x l (Running at h frames) = Unit {0}
+StandsWell x l (AtEnd at h) = ExitsWell x l at h
+StandsWell x l (Over why) = NoEscape why
+
+-- lock field l owns a lock whose count is above zero
+pub record HoldsLock (h : Heap) (l : ℕ) : Type 0 where
+  pub lock : ℕ
+  pub owner : (lock_at h lock).owner ≡ Some l
+  pub count : 0 < (lock_at h lock).count
+
+-- the same by counts: at no exit of a component that answers for l is a lock of l held
+abbrev pub LeavesNoneHeld : SubjectParts → ℕ → State → Type 0
+LeavesNoneHeld x l (Idle states h) = Unit {0}
+LeavesNoneHeld x l (Running at h frames) = Unit {0}
+LeavesNoneHeld x l (AtEnd at h) =
+    (edge : Edge) → edge_at x.list at.component at.edge ≡ Some edge → in_mask (exits_at x.list at.component) edge.callback ≡ true
+    → AnswersFor x at.component l → ¬ HoldsLock h l
+LeavesNoneHeld x l (Over why) = Unit {0}

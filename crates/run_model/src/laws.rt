@@ -1,0 +1,29 @@
+//! What the flow rules say of the runs of the machine.
+ghost use Rattle.std.specs.Prelude.{◌≡◌, ◌<◌, ◌↔◌, ℕ, List, length, true};
+ghost use Rattle.app_model.specs.Parts.{AppParts};
+ghost use Rattle.flow_model.specs.Derived.{Set, IsClosed};
+ghost use Rattle.flow_model.specs.Policy.{MeetsPolicy, is_held};
+ghost use Rattle.flow_model.specs.Rules.{Inner, Rules};
+ghost use Rattle.flow_model.specs.Subject.{SubjectParts, status_masks};
+ghost use Rattle.run_model.specs.Heaps.{Heap, status};
+ghost use Rattle.run_model.specs.Machine.{Callback, Frame, Idle, Running, options_of, run_of};
+ghost use Rattle.run_model.specs.Relation.{Each, IsHeap, IsIdle, IsInside};
+ghost use Rattle.run_model.specs.Soundness.{HoldsLock, LeavesNoneHeld, StandsWell};
+ghost use Rattle.run_model.specs.Tagged.{IsTagged};
+
+/// Soundness: what a closed set of facts that meets the policy says of every run.
+pub fn soundness()
+    ensures runs { (x : SubjectParts) (l : ℕ) (set : Set) → IsTagged x → l < length x.app.locks → IsClosed (Rules x l) set → MeetsPolicy x l set → (choices : List ℕ) → StandsWell x l (run_of x choices) }
+    ensures counts { (x : SubjectParts) (l : ℕ) (set : Set) → IsTagged x → l < length x.app.locks → IsClosed (Rules x l) set → MeetsPolicy x l set → (choices : List ℕ) → LeavesNoneHeld x l (run_of x choices) }
+{}
+
+/// The part of it that needs the rules inside callbacks alone: the start of a callback, and each step inside it.
+pub fn soundness_inside()
+    ensures starts { (x : SubjectParts) (l : ℕ) (set : Set) → IsTagged x → IsClosed (Inner x l (status_masks x l)) set → (states : List ℕ) (h : Heap) → IsIdle x l set states h → Each (IsInside x l set) (options_of x (Idle states h)) }
+    ensures steps { (x : SubjectParts) (l : ℕ) (set : Set) → IsTagged x → IsClosed (Inner x l (status_masks x l)) set → (at : Callback) (h : Heap) (frames : List Frame) → IsInside x l set (Running at h frames) → Each (IsInside x l set) (options_of x (Running at h frames)) }
+{}
+
+/// A status is held exactly where the field owns a lock with a count above zero.
+pub fn held_statuses()
+    ensures held { (n l : ℕ) (h : Heap) → IsHeap n h → (is_held (status h l) ≡ true) ↔ HoldsLock h l }
+{}
