@@ -17,7 +17,7 @@ use Rattle.flow_model.proofs.Laws.{in_closed, one_more}
 use Rattle.straight_code.specs.Body.{IsPlainBody}
 use Rattle.straight_code.specs.Path.{row_before, on_path, path_subject}
 use Rattle.straight_code.specs.Reached.{IsReached, at_start, by_step}
-use Rattle.straight_code.specs.Verdict.{AreHeld}
+use Rattle.straight_code.specs.Verdict.{AreHeld, HasExactSet}
 use Rattle.flow_model.proofs.Tests.{both, same_number, some_below, below_some}
 use Rattle.straight_code.proofs.Plain.{returns_last, acquired_before}
 use Rattle.straight_code.proofs.Closed.{leads, path_facts, comes_by, closed, view_first, only_callback, entered_same, ended}
@@ -100,16 +100,26 @@ module _ (app : AppParts) (plain : IsPlainBody app) where
       below_some acquires_at plain.last a.index (acquired_before app plain a.index _ h) h
 
   module _ (views : ℕ) (reached : (s : ℕ) → (in_mask views s ≡ true) ↔ IsReached (leads app plain.last) s) where
-    from_carried : (state s t : ℕ) (edge : Edge) (needs : List Fact) → Carries x 0 0 edge s t needs → HasAll (path_facts app plain.last views) (View 0 state s ∷ needs)
+    from_carried : (c state s t : ℕ) (edge : Edge) (needs : List Fact) → Carries x 0 c edge s t needs → HasAll (path_facts app plain.last views) (View c state s ∷ needs)
         → (in_mask views s ≡ true) × (on_path app s plain.last t ≡ true)
-    from_carried state s t edge needs (by_method m callback) has =
-        let v = view_first app plain views 0 state s has.0 in
-        let r = ended app plain views reached m (entered x 0 0 edge s) t has.1.0 in
-        (v.2, subst (λ n. on_path app n plain.last t ≡ true) (entered_same app plain views 0 edge s) r.1)
+    from_carried c state s t edge needs (by_method m callback) has =
+        let v = view_first app plain views c state s has.0 in
+        let r = ended app plain views reached m (entered x 0 c edge s) t has.1.0 in
+        (v.2, subst (λ n. on_path app n plain.last t ≡ true) (entered_same app plain views c edge s) r.1)
+
+    -- the set of facts along the path has no violation but derived ones
+    pub exact_set : length app.locks ≡ 1 → HasExactSet x
+    exact_set one = record {
+      set = path_facts app plain.last views;
+      closed = closed app plain views reached;
+      exact = λ c k t v.
+          let w = from_carried c v.state v.before t v.edge v.needs v.carries v.holds in
+          violates one v.before t ((reached v.before).0 w.0) w.1 v.held (answered (subst (λ n. AnswersFor x n 0) (view_first app plain views c v.state v.before v.holds.0).0 v.answers));
+    }
 
     violated : (t : ℕ) → (v : IsDerivableViolation x 0 0 0 t) → (in_mask views v.before ≡ true) × (on_path app v.before plain.last t ≡ true)
     violated t v =
-        from_carried v.state v.before t v.edge v.needs v.carries
+        from_carried 0 v.state v.before t v.edge v.needs v.carries
         (in_closed (Rules x 0) none_given (path_facts app plain.last views) (λ f h. absurd (true≢false (sym h))) (closed app plain views reached) v.holds)
 
     -- the statuses at which a callback that began at a view ends, where a lock is acquired and they are held

@@ -1,5 +1,5 @@
 -- A whole walk, and what it says of the application.
-use Rattle.std.proofs.Common.{◌≡◌, ◌⊎◌, ◌↔◌, ◌<◌, ◌+◌, ℕ, true, false, List, Option, Some, length, slice_index, bit_and, refl, sym, ◌∙◌, subst, ⊎_elim, true≢false, arith, eq-or-lt_of_le}
+use Rattle.std.proofs.Common.{◌≡◌, ◌⊎◌, ◌↔◌, ◌<◌, ◌+◌, ℕ, true, false, List, [], Option, Some, length, slice_index, bit_and, refl, sym, ◌∙◌, subst, ⊎_elim, true≢false, arith, eq-or-lt_of_le}
 use Rattle.app_model.specs.declared.tag.Tag.{Tag}
 use Rattle.app_model.specs.declared.rows.Named.{Named}
 use Rattle.app_model.specs.Parts.{AppParts}
@@ -9,19 +9,26 @@ use Rattle.flow_model.specs.declared.act.Act.TheVariants.{ReturnVoid}
 use Rattle.flow_model.specs.Acts.{act_at}
 use Rattle.flow_model.specs.Masks.{in_mask, any_below, IsImage}
 use Rattle.flow_model.proofs.MaskLaws.{IsIn-zero, IsCut-and}
-use Rattle.flow_model.specs.Policy.{is_held}
+use Rattle.flow_model.specs.Policy.{AreViolations, MeetsPolicy, is_held}
+use Rattle.flow_model.specs.Subject.{SubjectParts}
 use Rattle.flow_model.specs.Scope.{is_escape, is_wrong_call, stores_new}
 use Rattle.flow_model.proofs.Tests.{some_below, below_some, in_mask_below}
 use Rattle.straight_code.specs.declared.path.Walk.{Walk}
 use Rattle.straight_code.specs.Body.{IsPlainBody}
-use Rattle.straight_code.specs.Path.{row_before, on_path, acquires_at}
+use Rattle.straight_code.specs.Path.{path_subject, row_before, on_path, acquires_at}
 use Rattle.straight_code.specs.Reached.{IsReached, at_start, by_step, steps_of}
 use Rattle.straight_code.specs.Scope.{IsAllowed, IsInScope, IsThreadCall, stores_new_at}
-use Rattle.straight_code.specs.Verdict.{AreEnds, AreHeld, IsPlainPath}
+use Rattle.straight_code.specs.Verdict.{AreEnds, AreHeld, HasExactSet, IsPlainPath, IsSafe, violation_at}
 use Rattle.straight_code.specs.Walk.{IsWalk}
 use Rattle.straight_code.proofs.Plain.{returns_last}
 use Rattle.straight_code.proofs.Closed.{leads, status_below}
-use Rattle.straight_code.proofs.Found.{are_held}
+use Rattle.flow_model.specs.Derived.{Set, IsClosed}
+use Rattle.flow_model.specs.Rules.{Rules}
+use Rattle.run_model.specs.Tagged.{IsTagged}
+use Rattle.run_model.specs.Machine.{run_of}
+use Rattle.run_model.specs.Soundness.{StandsWell, LeavesNoneHeld}
+use Rattle.straight_code.proofs.PathTags.{path_tagged}
+use Rattle.straight_code.proofs.Found.{are_held, exact_set}
 
 -- ---- the ends of a walk
 pub ends_of : (walk : Walk) (views img : ℕ) → ((s : ℕ) → (in_mask views s ≡ true) ↔ IsReached (steps_of walk.images) s) → walk.acquired ≡ true
@@ -119,3 +126,31 @@ module _ (app : AppParts) (plain : IsPlainBody app) where
           (λ h. let e = (ends.ends t).0 h in (sym is.acquired ∙ e.0, e.1, (e.2.0, e.2.1, sym (steps_lead e.2.0 t (in_mask_below ends.views e.2.0 e.2.1)) ∙ e.2.2))),
           (λ e. (ends.ends t).1 (is.acquired ∙ e.0, e.1, (e.2.0, e.2.1, steps_lead e.2.0 t (in_mask_below ends.views e.2.0 e.2.1) ∙ e.2.2))),
         )
+
+    pub ends_exact : length app.locks ≡ 1 → (mask : ℕ) → AreEnds walk mask → HasExactSet (path_subject app)
+    ends_exact one mask ends = exact_set app plain ends.views (λ s. ((λ h. (reached_by_steps s ((ends.reached s).0 h)).1), (λ r. (ends.reached s).1 (steps_reached s r).1))) one
+
+-- no derived violation: the exact set meets the policy
+pub meets : (x : SubjectParts) → (exact : HasExactSet x) → AreViolations x [] → MeetsPolicy x 0 exact.set
+meets x exact none c k s v = omega (arith, ((none.exact (violation_at s)).1 (exact.exact c k s v)).1)
+
+pub some_same : {A : Type 0} (a b : A) → Some a ≡ Some b → a ≡ b
+some_same a b p = cc
+
+-- no derived violation: every run is safe, by what holds of every closed set that meets the policy
+pub safe : (app : AppParts) → length app.locks ≡ 1 → IsPlainPath app → HasExactSet (path_subject app) → AreViolations (path_subject app) []
+    → ((x : SubjectParts) (l : ℕ) (set : Set) → IsTagged x → l < length x.app.locks → IsClosed (Rules x l) set → MeetsPolicy x l set → (choices : List ℕ) → StandsWell x l (run_of x choices))
+    → ((x : SubjectParts) (l : ℕ) (set : Set) → IsTagged x → l < length x.app.locks → IsClosed (Rules x l) set → MeetsPolicy x l set → (choices : List ℕ) → LeavesNoneHeld x l (run_of x choices))
+    → IsSafe (path_subject app)
+safe app one path exact none stands leaves l lt choices =
+    subst (λ n. StandsWell x n (run_of x choices) × LeavesNoneHeld x n (run_of x choices)) (sym zero_l)
+    (stands x 0 exact.set tagged (omega (arith, one)) exact.closed (meets x exact none) choices, leaves x 0 exact.set tagged (omega (arith, one)) exact.closed (meets x exact none) choices)
+  where
+    x : SubjectParts
+    x = path_subject app
+
+    zero_l : l ≡ 0
+    zero_l = omega (arith, lt, one)
+
+    tagged : IsTagged x
+    tagged = path_tagged app path.plain path.scope one

@@ -7,3 +7,4 @@ pub mod Images
 pub mod Steps
 pub mod Judged
 pub mod Listed
+pub mod PathTags

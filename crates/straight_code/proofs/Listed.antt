@@ -46,7 +46,7 @@ module _ (mask : ℕ) where
   listed (suc n) = next_listed n (violations_below mask n) (listed n)
 
 -- every derived violation is of lock field 0, component 0 and callback 0
-the_component : (c e : ℕ) (edge : Edge) → edge_at (receiver ∷ []) c e ≡ Some edge → c ≡ 0
+pub the_component : (c e : ℕ) (edge : Edge) → edge_at (receiver ∷ []) c e ≡ Some edge → c ≡ 0
 unfolding edge_at
 the_component zero e edge h = refl
 the_component (suc c) e edge h = absurd (none_some edge None refl h)

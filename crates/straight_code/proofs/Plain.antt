@@ -133,3 +133,12 @@ acquired_before app plain i row h = by_place (cases_order i plain.last)
     by_place (inl eq) = absurd (not_acquired (act_at app 0 i) row (subst (λ n. act_at app 0 n ≡ Some ReturnVoid) (sym eq) (returns_last app plain)) h)
     by_place (inr (inl lt)) = lt
     by_place (inr (inr gt)) = absurd (acquired_inside app i row (subst (λ n. n ≤ i) (sym plain.len) (omega arith)) h)
+
+-- and there is no act
+act_of_none : (app : AppParts) (i : ℕ) (p : Option Place) → p ≡ None → act_by app 0 i (ins_of p) ≡ None
+act_of_none app i None p = refl
+act_of_none app i (Some x) p = absurd (none_some x (Some x) p refl)
+
+pub no_act_past : (app : AppParts) (i : ℕ) → code_len app 0 ≤ i → act_at app 0 i ≡ None
+unfolding act_at
+no_act_past app i l = act_of_none app i (place_at app 0 i) (no_place app i l)

@@ -1,11 +1,16 @@
 -- The judgement of a receiver of straight-line code: not of the form, or its violations.
-use Rattle.std.specs.Prelude.{ℕ, zero, suc, ◌≡◌, ◌≤◌, ◌↔◌, List, [], ◌∷◌, ◌++◌, if◌then◌else◌, length, true, Option, Some, None, slice_index}
+use Rattle.std.specs.Prelude.{ℕ, zero, suc, ◌≡◌, ◌<◌, ◌≤◌, ◌↔◌, List, [], ◌∷◌, ◌++◌, if◌then◌else◌, length, true, Option, Some, None, slice_index}
 use Rattle.ns_base.specs.declared.rows.TypeNo.{TypeNo}
 use Rattle.app_model.specs.declared.rows.MethodRow.{MethodRow}
 use Rattle.app_model.specs.Parts.{AppParts, ClassParts}
 use Rattle.app_model.specs.Names.{type_text}
 use Rattle.flow_model.specs.Masks.{in_mask}
-use Rattle.flow_model.specs.Policy.{IsDerivableViolation, AreViolations, is_held}
+use Rattle.flow_model.specs.Derived.{Set, HasAll, IsClosed}
+use Rattle.flow_model.specs.Rules.{Rules}
+use Rattle.flow_model.specs.Subject.{SubjectParts}
+use Rattle.flow_model.specs.Policy.{IsViolation, IsDerivableViolation, AreViolations, is_held}
+use Rattle.run_model.specs.Machine.{run_of}
+use Rattle.run_model.specs.Soundness.{StandsWell, LeavesNoneHeld}
 use Rattle.flow_model.specs.declared.policy.Violation.{Violation}
 use Rattle.straight_code.specs.declared.path.Walk.{Walk}
 use Rattle.straight_code.specs.Body.{IsPlainBody}
@@ -42,9 +47,20 @@ pub record IsPlainPath (app : AppParts) : Type 0 where
 abbrev pub AreHeld : AppParts → ℕ → Type 0
 AreHeld app mask = (s : ℕ) → (in_mask mask s ≡ true) ↔ IsDerivableViolation (path_subject app) 0 0 0 s
 
+-- a set of facts that no rule leads out of, and of which each violation is derived
+pub record HasExactSet (x : SubjectParts) : Type 0 where
+  pub set : Set
+  pub closed : IsClosed (Rules x 0) set
+  pub exact : (c k s : ℕ) → IsViolation x 0 (HasAll set) c k s → IsDerivableViolation x 0 0 0 s
+
 abbrev pub IsVerdict : AppParts → Option (List Violation) → Type 0
 IsVerdict app None = ¬ IsPlainPath app
 IsVerdict app (Some violations) = IsPlainPath app × AreViolations (path_subject app) violations
+
+-- no run of the machine stands at an exit of a component with a lock held that the component answers for, and no lock
+-- escapes
+abbrev pub IsSafe : SubjectParts → Type 0
+IsSafe x = (l : ℕ) → l < length x.app.locks → (choices : List ℕ) → StandsWell x l (run_of x choices) × LeavesNoneHeld x l (run_of x choices)
 
 -- the violation of the callback at a status, and those at the statuses of a mask below n, in order
 abbrev pub violation_at : ℕ → Violation

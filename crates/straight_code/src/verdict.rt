@@ -1,11 +1,11 @@
 //! The judgement of a receiver.
-ghost use Rattle.std.specs.Prelude.{◌≡◌, ◌↔◌, ◌<◌, ◌+◌, ℕ, List, ◌++◌, IfOk, true, length, option_map};
+ghost use Rattle.std.specs.Prelude.{◌≡◌, ◌↔◌, ◌<◌, ◌+◌, ℕ, List, ◌++◌, IfOk, true, length, option_map, Some, []};
 ghost use Rattle.app_model.specs.Words.{code_len};
 ghost use Rattle.flow_model.specs.Masks.{in_mask, any_below};
 ghost use Rattle.flow_model.specs.Policy.{is_held};
 ghost use Rattle.straight_code.specs.Body.{IsPlainBody};
-ghost use Rattle.straight_code.specs.Path.{acquires_at};
-ghost use Rattle.straight_code.specs.Verdict.{AreEnds, AreHeld, IsSmallApp, IsVerdict, one_if_in, violations_below};
+ghost use Rattle.straight_code.specs.Path.{acquires_at, path_subject};
+ghost use Rattle.straight_code.specs.Verdict.{AreEnds, AreHeld, IsSafe, IsSmallApp, IsVerdict, one_if_in, violations_below};
 ghost use Rattle.straight_code.specs.Walk.{IsWalk};
 
 use crate::body::{CALLBACK, is_plain_body};
@@ -13,6 +13,7 @@ use crate::path::{Walk, enter, step};
 use crate::views::reach;
 use app_model::App;
 use flow_model::{Violation, has_status, image};
+use run_model::soundness;
 use std::alloc::{AllocError, Global};
 
 /// The statuses C1, C2, CT, U1 and L.
@@ -22,7 +23,8 @@ const HELD: u8 = 0xdc;
 /// of scope.
 pub fn judge(alloc: Global, app: &App) -> Result<Option<Vec<Violation>>, AllocError>
     requires { IsSmallApp app.now }
-    ensures { IfOk result (λ found. IsVerdict app.now (option_map (λ v. v.items) found)) }
+    ensures exact { IfOk result (λ found. IsVerdict app.now (option_map (λ v. v.items) found)) }
+    ensures sound { IfOk result (λ found. option_map (λ v. v.items) found ≡ Some [] → IsSafe (path_subject app.now)) }
 {
     if !is_plain_body(app) {
         return Ok(None);
@@ -33,7 +35,8 @@ pub fn judge(alloc: Global, app: &App) -> Result<Option<Vec<Violation>>, AllocEr
 fn judge_plain(alloc: Global, app: &App) -> Result<Option<Vec<Violation>>, AllocError>
     requires small { IsSmallApp app.now }
     requires plain { IsPlainBody app.now }
-    ensures { IfOk result (λ found. IsVerdict app.now (option_map (λ v. v.items) found)) }
+    ensures exact { IfOk result (λ found. IsVerdict app.now (option_map (λ v. v.items) found)) }
+    ensures sound { IfOk result (λ found. option_map (λ v. v.items) found ≡ Some [] → IsSafe (path_subject app.now)) }
 {
     let last = app.code_len(CALLBACK) - 1;
     let mut walk = enter(alloc, app)?;
@@ -42,6 +45,7 @@ fn judge_plain(alloc: Global, app: &App) -> Result<Option<Vec<Violation>>, Alloc
             return Ok(None);
         }
     }
+    soundness();
     Ok(Some(list_violations(alloc, held_at_end(&walk))?))
 }
 
