@@ -4,11 +4,9 @@
 
 mod adapters;
 mod answer;
-mod first_form;
 mod reading;
 #[cfg(test)]
 mod tests;
-mod texts;
 mod top;
 mod words;
 mod writing;

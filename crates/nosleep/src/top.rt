@@ -2,9 +2,10 @@
 ghost use Rattle.std.specs.Prelude.{◌≡◌, ◌≢◌, ◌⊎◌, ℕ, List, Some, map, string_bytes};
 ghost use Rattle.ns_base.specs.Outside.{Rose};
 ghost use Rattle.nosleep.specs.Words.{form_of, Receiver};
-ghost use Rattle.nosleep.specs.Answer.{IsAnswer, IsEnd};
+ghost use Rattle.nosleep.specs.Answer.{IsAnswer, IsEnd, IsJudged, Judged};
 ghost use Rattle.nosleep.specs.Reading.{KeepsShelf};
-ghost use Rattle.nosleep.specs.FirstForm.{IsJudged};
+ghost use Rattle.app_model.specs.Parts.{AppParts};
+ghost use Rattle.straight_code.specs.Verdict.{IsSafe};
 
 use crate::answer::{Answer, find_answer};
 use crate::writing::write_all;
@@ -32,11 +33,15 @@ pub fn nosleep<F: Shelf, K: Sink>(
     // After want of memory nothing was written.
     ensures memory { result ≡ Exit.Memory → out.new ≡ out.old }
 
-    // A told file of the first form is accepted unless the outside failed or memory ran out.
-    ensures complete { (dex class bs : List ℕ) → form_of (map string_bytes words.now) ≡ Some (Receiver dex class)
-        → F.content shelf.old dex ≡ Some bs → IsJudged bs class
+    // After an accepted file no run of the machine leaves a lock held.
+    ensures sound { result ≡ Exit.Accept → (dex class bs : List ℕ) → form_of (map string_bytes words.now) ≡ Some (Receiver dex class)
+        → F.content shelf.old dex ≡ Some bs → Judged bs class IsSafe }
+
+    // A told file that can be judged is accepted or reported, unless the outside failed or memory ran out.
+    ensures complete { (dex class bs : List ℕ) (app : AppParts) → form_of (map string_bytes words.now) ≡ Some (Receiver dex class)
+        → F.content shelf.old dex ≡ Some bs → IsJudged bs class app
         → ¬ Rose (F.faults shelf.old) (F.faults shelf.new) → ¬ Rose (K.faults out.old) (K.faults out.new)
-        → (result ≡ Exit.Accept) ⊎ (result ≡ Exit.Memory) }
+        → (result ≡ Exit.Accept) ⊎ ((result ≡ Exit.Reports) ⊎ (result ≡ Exit.Memory)) }
 
     // What the shelf tells stays, and no watcher is touched.
     ensures shelf { KeepsShelf F.content F.faults shelf.old shelf.new }
