@@ -11,3 +11,4 @@ pub mod LockCalls
 pub mod Calls
 pub mod Instructions
 pub mod Runs
+mod Example

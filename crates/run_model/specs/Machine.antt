@@ -1,4 +1,4 @@
--- The modelled Android as a machine: its states, what may come next, and runs.
+-- The modelled Android as a machine: its states, what may come next, and runs. It reads no tags of the subject.
 --
 -- A call of a method that the application declares goes outside as every other call does: no instruction enters a
 -- method of the application yet.

@@ -1,6 +1,5 @@
 //! What the flow rules say of the runs of the machine.
 ghost use Rattle.std.specs.Prelude.{◌≡◌, ◌<◌, ◌↔◌, ℕ, List, length, true};
-ghost use Rattle.app_model.specs.Parts.{AppParts};
 ghost use Rattle.flow_model.specs.Derived.{Set, IsClosed};
 ghost use Rattle.flow_model.specs.Policy.{MeetsPolicy, is_held};
 ghost use Rattle.flow_model.specs.Rules.{Inner, Rules};
