@@ -75,7 +75,6 @@ fn judge_app(alloc: Global, app: &App) -> Result<Answer, AllocError>
 
 /// The answer to violations.
 fn tell(alloc: Global, app: &App, violations: &[Violation]) -> Result<Answer, AllocError>
-    requires { length violations.now < 4294967296 }
     ensures { IfOk result (λ a. IsTold app.now violations.now a.text.items a.exit) }
 {
     if violations.is_empty() {

@@ -16,7 +16,6 @@ pub fn heads_text(
     list: &[ComponentRow],
     violations: &[Violation],
 ) -> Result<Vec<u8>, AllocError>
-    requires { length violations.now < 4294967296 }
     ensures { IfOk result (λ text. text.items ≡ spec.heads_text app.now list.now violations.now) }
 {
     let mut text = Vec::new(alloc);
