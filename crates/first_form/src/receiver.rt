@@ -10,7 +10,7 @@ ghost use Rattle.first_form.specs.FirstForm.{AreReceiverParams, HasBody, HasTwoM
 
 use super::is_want_of_memory;
 use super::text::{is_named, is_text};
-use app_model::Body;
+use app_model::{Body, WAKE_LOCK};
 use dalvik_decode::CodeFault;
 use dex_code::{ClassMembers, CodeItem, Member, read_class_members, read_code};
 use dex_tables::Tables;
@@ -19,8 +19,6 @@ use std::alloc::{AllocError, Global};
 
 /// Flags that the callback may not have: static, native, abstract.
 const BANNED: u32 = 0x8 | 0x100 | 0x400;
-
-const WAKE_LOCK: &[u8] = b"Landroid/os/PowerManager$WakeLock;";
 
 /// The argument registers of the callback: itself, the context and the intent.
 const CALLBACK_INS: u16 = 3;
