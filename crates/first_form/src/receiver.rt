@@ -1,11 +1,11 @@
 //! The one class: a receiver with one lock and one callback, whose control flow is found.
-ghost use Rattle.std.specs.Prelude.{◌≡◌, ◌≢◌, ◌≤◌, ◌<◌, ◌↔◌, ◌+◌, ◌*◌, ℕ, length, IsTrue, IfOk, MatchOption};
+ghost use Rattle.std.specs.Prelude.{◌≡◌, ◌≢◌, ◌≤◌, ◌<◌, ◌↔◌, length, IsTrue, IfOk, MatchOption};
 ghost use Rattle.app_model.specs.Body.{BodyRows};
 ghost use Rattle.dalvik_decode.specs.declared.faults.CodeFault.{CodeFault};
 ghost use Rattle.dex_code.specs.declared.members.Member.{Member};
 ghost use Rattle.dex_code.specs.Content.{AreMembersOf, CodeContent, IsCodeOf};
 ghost use Rattle.dex_tables.specs.Content.{AreTablesOf};
-ghost use Rattle.dex_tables.specs.Rows.{class_count, method_count, type_count, type_name, proto_count, proto_params, list_size, list_entry};
+ghost use Rattle.dex_tables.specs.Rows.{class_count, method_count, type_name, proto_count, proto_params, list_size, list_entry};
 ghost use Rattle.first_form.specs.FirstForm.{AreReceiverParams, HasBody, HasTwoMembers, IsCallback, IsLockField, IsReceiverClass, IsReceiverProto, IsReceiverRow};
 
 use super::is_want_of_memory;
