@@ -1,8 +1,8 @@
 //! The rows of the application. Types, names and prototypes are numbered by their rows in the file.
-ghost use Rattle.std.specs.Prelude.{◌≡◌, ◌≢◌, ◌≤◌, ◌<◌, ◌+◌, [], ◌∷◌, ℕ, length, map, IfOk, None, Ok};
+ghost use Rattle.std.specs.Prelude.{◌≡◌, ◌≢◌, ◌≤◌, ◌<◌, length, map, IfOk, None, Ok};
 ghost use Rattle.std.specs.List.{All, range_with_len};
 ghost use Rattle.dex_tables.specs.Content.{AreTablesOf};
-ghost use Rattle.dex_tables.specs.Rows.{class_count, class_interfaces, class_parent, field_count, list_size, method_count, no_parent, proto_count, proto_params, string_count, string_text, type_count, type_name};
+ghost use Rattle.dex_tables.specs.Rows.{class_count, class_parent, field_count, method_count, no_parent, proto_count, proto_params, string_count, string_text, type_count, type_name};
 ghost use Rattle.method_graph.specs.Operands.{named_of, past_table};
 ghost use Rattle.method_graph.specs.Graph.{graph_of};
 ghost use Rattle.first_form.specs.FirstForm.{app_of, class_parts, field_parts, method_parts, named_field, named_method, operand_of, operands_of, params_of, proto_parts};

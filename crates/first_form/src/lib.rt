@@ -14,6 +14,8 @@ ghost use Rattle.first_form.specs.FirstForm.{IsReceiverApp};
 
 mod app;
 mod receiver;
+#[cfg(test)]
+mod tests;
 mod text;
 
 use app::make_app;

@@ -1,16 +1,16 @@
 //! The one class: a receiver with one lock and one callback, whose control flow is found.
-ghost use Rattle.std.specs.Prelude.{◌≡◌, ◌≢◌, ◌≤◌, ◌<◌, ◌↔◌, ◌+◌, ◌*◌, ℕ, length, IsTrue, IfOk, MatchOption};
+ghost use Rattle.std.specs.Prelude.{◌≡◌, ◌≢◌, ◌≤◌, ◌<◌, ◌↔◌, length, IsTrue, IfOk, MatchOption};
 ghost use Rattle.app_model.specs.Body.{BodyRows};
 ghost use Rattle.dalvik_decode.specs.declared.faults.CodeFault.{CodeFault};
 ghost use Rattle.dex_code.specs.declared.members.Member.{Member};
 ghost use Rattle.dex_code.specs.Content.{AreMembersOf, CodeContent, IsCodeOf};
 ghost use Rattle.dex_tables.specs.Content.{AreTablesOf};
-ghost use Rattle.dex_tables.specs.Rows.{class_count, method_count, type_count, type_name, proto_count, proto_params, list_size, list_entry};
+ghost use Rattle.dex_tables.specs.Rows.{class_count, method_count, type_name, proto_count, proto_params, list_size, list_entry};
 ghost use Rattle.first_form.specs.FirstForm.{AreReceiverParams, HasBody, HasTwoMembers, IsCallback, IsLockField, IsReceiverClass, IsReceiverProto, IsReceiverRow};
 
 use super::is_want_of_memory;
 use super::text::{is_named, is_text};
-use app_model::Body;
+use app_model::{Body, WAKE_LOCK};
 use dalvik_decode::CodeFault;
 use dex_code::{ClassMembers, CodeItem, Member, read_class_members, read_code};
 use dex_tables::Tables;
@@ -19,8 +19,6 @@ use std::alloc::{AllocError, Global};
 
 /// Flags that the callback may not have: static, native, abstract.
 const BANNED: u32 = 0x8 | 0x100 | 0x400;
-
-const WAKE_LOCK: &[u8] = b"Landroid/os/PowerManager$WakeLock;";
 
 /// The argument registers of the callback: itself, the context and the intent.
 const CALLBACK_INS: u16 = 3;

@@ -1,5 +1,5 @@
 //! Strings and names of the first form: text of fewer than 128 bytes, each from 01 to 7f.
-ghost use Rattle.std.specs.Prelude.{◌≡◌, ◌<◌, ◌↔◌, ℕ, length, IsTrue, EachIndex, slice_index};
+ghost use Rattle.std.specs.Prelude.{◌≡◌, ◌<◌, ◌↔◌, IsTrue, EachIndex, slice_index};
 ghost use Rattle.dex_tables.specs.Content.{AreTablesOf};
 ghost use Rattle.dex_tables.specs.Rows.{string_count, type_count, string_text, type_name};
 ghost use Rattle.first_form.specs.FirstForm.{IsAsciiByte, IsPlainText, ArePlainStrings};
