@@ -1,5 +1,5 @@
 -- The application of a file of the first form has one class, one method and one lock field.
-use Rattle.std.proofs.Common.{◌≡◌, ◌≢◌, ◌<◌, ◌≤◌, ℕ, List, ◌∷◌, [], length, refl, sym, ◌∙◌, subst, arith, zero-add}
+use Rattle.std.proofs.Common.{◌≡◌, ◌<◌, ℕ, List, [], refl, sym, ◌∙◌, subst, arith, zero-add}
 use Rattle.std.proofs.lemmas.List.FromFn.{get_or-map-range_with_len}
 use Rattle.app_model.specs.Parts.{AppParts}
 use Rattle.app_model.specs.Names.{type_text}
@@ -27,22 +27,27 @@ small_app_of bs class app r = record {
   other = λ same. row.parent (sym parent_text ∙ same ∙ own_text ∙ row.named);
   interfaces = refl;
   methods = refl;
-  fits = subst (λ n. n ≤ r.code.registers) (sym code.ins) (subst (λ n. _ ≤ n) (sym code.registers) code.room);
+  fits = omega (arith, code.ins, code.registers, code.room);
   locks = refl;
 }
   where
-  row : IsReceiverRow bs class
-  row = r.is_class.receiver
-  code : IsCodeOf bs r.callback.code r.code
-  code = r.has_body.stands
-  sound : IsSoundClass bs 0
-  sound = r.tables.1.sound.classes 0 (omega (arith, r.is_class.one_class))
-  app_here : AppParts
-  app_here = app_of bs r.lock r.callback r.code r.body
-  parent_text : type_text app_here (class_parent bs 0) ≡ type_name bs (class_parent bs 0)
-  parent_text = type_by_row bs r.lock r.callback r.code r.body (class_parent bs 0) (sound.parent row.has_parent)
-  own_text : type_text app_here (class_type bs 0) ≡ type_name bs (class_type bs 0)
-  own_text = type_by_row bs r.lock r.callback r.code r.body (class_type bs 0) sound.itself
+    row : IsReceiverRow bs class
+    row = r.is_class.receiver
+
+    code : IsCodeOf bs r.callback.code r.code
+    code = r.has_body.stands
+
+    sound : IsSoundClass bs 0
+    sound = r.tables.1.sound.classes 0 (omega (arith, r.is_class.one_class))
+
+    app_here : AppParts
+    app_here = app_of bs r.lock r.callback r.code r.body
+
+    parent_text : type_text app_here (class_parent bs 0) ≡ type_name bs (class_parent bs 0)
+    parent_text = type_by_row bs r.lock r.callback r.code r.body (class_parent bs 0) (sound.parent row.has_parent)
+
+    own_text : type_text app_here (class_type bs 0) ≡ type_name bs (class_type bs 0)
+    own_text = type_by_row bs r.lock r.callback r.code r.body (class_type bs 0) sound.itself
 
 pub small_of : (bs class : List ℕ) (app : AppParts) → IsReceiverApp bs class app → IsSmallApp app
 small_of bs class app r = subst (λ (a : AppParts). IsSmallApp a) (sym r.is) (small_app_of bs class app r)

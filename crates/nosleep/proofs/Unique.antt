@@ -1,5 +1,5 @@
 -- The bytes of a file of the first form have one application.
-use Rattle.std.proofs.Common.{◌≡◌, ℕ, List, Ok, refl, sym, ◌∙◌, subst, ap}
+use Rattle.std.proofs.Common.{◌≡◌, ℕ, List, Ok, refl, sym, ◌∙◌, subst}
 use Rattle.app_model.specs.Parts.{AppParts}
 use Rattle.app_model.specs.Body.{BodyRows}
 use Rattle.dex_code.specs.declared.members.Member.{Member}
@@ -17,8 +17,8 @@ body_same bs callback c d x y a b =
     let same = code_same bs callback.code c d a.stands b.stands in
     (same, one_body (a.graph) (subst (λ (k : CodeContent). graph_of bs callback.id callback.flags k ≡ Ok y) (sym same) b.graph))
   where
-  one_body : graph_of bs callback.id callback.flags c ≡ Ok x → graph_of bs callback.id callback.flags c ≡ Ok y → x ≡ y
-  one_body p q = cc
+    one_body : graph_of bs callback.id callback.flags c ≡ Ok x → graph_of bs callback.id callback.flags c ≡ Ok y → x ≡ y
+    one_body p q = cc
 
 pub app_same : (bs class : List ℕ) (app other : AppParts) → IsReceiverApp bs class app → IsReceiverApp bs class other → app ≡ other
 app_same bs class app other a b =
@@ -26,5 +26,5 @@ app_same bs class app other a b =
     let bodies = body_same bs a.callback a.code b.code a.body b.body a.has_body (subst (λ (m : Member). HasBody bs m b.code b.body) (sym members.1) b.has_body) in
     a.is ∙ all members.0 members.1 bodies.0 bodies.1 ∙ sym b.is
   where
-  all : a.lock ≡ b.lock → a.callback ≡ b.callback → a.code ≡ b.code → a.body ≡ b.body → app_of bs a.lock a.callback a.code a.body ≡ app_of bs b.lock b.callback b.code b.body
-  all p q r s = rw (p, q, r, s) refl
+    all : a.lock ≡ b.lock → a.callback ≡ b.callback → a.code ≡ b.code → a.body ≡ b.body → app_of bs a.lock a.callback a.code a.body ≡ app_of bs b.lock b.callback b.code b.body
+    all p q r s = rw (p, q, r, s) refl

@@ -111,7 +111,11 @@ fn push_callback(
     ensures { IfOk result (λ _. text.new.items ≡ text.old.items ++ callback_text app.now list.now component callback) }
 {
     match list.get(component as usize) {
-        Some(row) => push_member(text, app.class_text(row.class), name_of_callback(row.kind, callback)),
+        Some(row) => push_member(
+            text,
+            app.class_text(row.class),
+            name_of_callback(row.kind, callback),
+        ),
         None => Ok(()),
     }
 }

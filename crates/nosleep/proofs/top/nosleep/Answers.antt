@@ -1,5 +1,6 @@
-use Rattle.std.proofs.Common.{[], refl, inl, inr}
+use Rattle.std.proofs.Common.{[], map, string_bytes, refl, inl, inr}
 use Rattle.ns_base.specs.declared.answers.Exit.TheVariants as exits
+use Rattle.nosleep.proofs.Judgements.{judged_exit}
 use Rattle.nosleep.proofs.Pieces.{WroteAll-none}
 use Rattle.nosleep.proofs.top.nosleep.Goals as goal
 
@@ -15,3 +16,7 @@ pub returns-clause-answer : goal.returns-clause-answer
 returns-clause-answer g c =
     let wrote = rw c.deref.ensures.value at c.in-Err-write_all.ensures.part in
     (c.in-Ok.answer.exit, c.in-Ok.answer.text.items, c.in-Ok.ensures.answer, inr (refl, c.in-Ok.ensures.judged, wrote, c.in-Err-write_all.ensures.cause))
+
+pub returns-in-Ok-write_all-clause-complete : goal.returns-in-Ok-write_all-clause-complete
+returns-in-Ok-write_all-clause-complete g c = λ dex class bs app form told is quiet calm.
+    judged_exit (map string_bytes c.args.words.now) (g.F.Shelf.content c.args.shelf.now) (g.F.Shelf.faults c.args.shelf.now) (g.F.Shelf.faults c.find_answer.new.shelf) dex class bs app form told is quiet c.in-Ok.answer.text.items c.in-Ok.answer.exit c.in-Ok.ensures.answer
