@@ -2,9 +2,10 @@
 use Rattle.std.proofs.Common.{◌≡◌, ℕ, zero, suc, ◌+◌, ◌-◌, ◌<◌, List, [], ◌∷◌, ◌++◌, Result, Ok, Err, refl, arith}
 use Rattle.dex_bytes.specs.declared.fault.DexFault.{DexFault}
 use Rattle.dex_tables.specs.Reading.{list_below}
-use Rattle.dex_code.specs.declared.stop.Stop.{Stop}
-use Rattle.dex_code.specs.declared.stop.Stop.TheVariants as stops
-use Rattle.dex_code.specs.Reading.{reached, Stops}
+use Rattle.dex_tables.specs.declared.stop.Stop.{Stop}
+use Rattle.dex_tables.specs.declared.stop.Stop.TheVariants as stops
+use Rattle.dex_tables.specs.Reading.{Stops}
+use Rattle.dex_code.specs.Reading.{reached}
 
 -- one step more
 pub reached_more : {X : Type 0} (step : ℕ → X → Result X DexFault) (x : X) (i : ℕ) (y z : X) → reached step x i ≡ Ok y → step i y ≡ Ok z → reached step x (i + 1) ≡ Ok z

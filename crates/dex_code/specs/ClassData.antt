@@ -21,22 +21,9 @@ direct_count bs p = number_at bs p 2
 abbrev pub virtual_count : List ℕ → ℕ → ℕ
 virtual_count bs p = number_at bs p 3
 
--- which number of the class data an entry of each list begins with
-abbrev pub static_entry : List ℕ → ℕ → ℕ → ℕ
-static_entry bs p i = 4 + 2 * i
-
-abbrev pub instance_entry : List ℕ → ℕ → ℕ → ℕ
-instance_entry bs p i = 4 + 2 * static_count bs p + 2 * i
-
-abbrev pub direct_entry : List ℕ → ℕ → ℕ → ℕ
-direct_entry bs p i = 4 + 2 * static_count bs p + 2 * instance_count bs p + 3 * i
-
-abbrev pub virtual_entry : List ℕ → ℕ → ℕ → ℕ
-virtual_entry bs p i = 4 + 2 * static_count bs p + 2 * instance_count bs p + 3 * direct_count bs p + 3 * i
-
 -- how many numbers the class data has
 abbrev pub number_count : List ℕ → ℕ → ℕ
-number_count bs p = virtual_entry bs p (virtual_count bs p)
+number_count bs p = 4 + 2 * static_count bs p + 2 * instance_count bs p + 3 * direct_count bs p + 3 * virtual_count bs p
 
 -- how many numbers an entry has
 abbrev pub width_of : Kind → ℕ

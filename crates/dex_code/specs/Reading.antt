@@ -1,6 +1,6 @@
 -- The order in which class data and code items are read, with the first fault.
 use Rattle.std.specs.List.{list_any}
-use Rattle.std.specs.Prelude.{ℕ, ℤ, option_map, zero, suc, ◌+◌, ◌-◌, ◌*◌, ◌≡◌, List, [], ◌∷◌, ◌++◌, length, Bool, false, nat_lt, ◌==◌, ◌||◌, if◌then◌else◌, slice_get, unsigned_abs, Option, Some, None, Result, Ok, Err}
+use Rattle.std.specs.Prelude.{ℕ, ℤ, option_map, zero, suc, ◌+◌, ◌-◌, ◌*◌, List, [], ◌∷◌, ◌++◌, length, Bool, false, nat_lt, ◌==◌, ◌||◌, if◌then◌else◌, slice_get, unsigned_abs, Option, Some, None, Result, Ok, Err}
 use Rattle.std.specs.Str.{bytes_eq}
 use Rattle.ns_base.specs.Answers.{limit_of}
 use Rattle.ns_base.specs.declared.answers.Counted.TheVariants.{Members, Units, Handlers}
@@ -15,21 +15,10 @@ use Rattle.dex_code.specs.declared.members.Member.{Member}
 use Rattle.dex_code.specs.declared.code.Handler.{Handler}
 use Rattle.dex_code.specs.declared.code.TryRow.{TryRow}
 use Rattle.dex_code.specs.declared.handlers.Bounds.{Bounds}
-use Rattle.dex_code.specs.declared.stop.Stop.{Stop}
-use Rattle.dex_code.specs.declared.stop.Stop.TheVariants as stops
 use Rattle.dex_code.specs.ClassData.{row_count, row_class}
 use Rattle.dex_code.specs.CodeItem.{code_registers, code_ins, code_outs, code_tries, code_len, code_unit, try_place, try_start, try_count, covered_before, handlers_place}
 use Rattle.dex_code.specs.HandlerPart.{catch_alls, has_catch_all, try_list}
 use Rattle.dex_code.specs.Content.{MemberLists, no_members, CodeContent}
-
--- a part of the reading gave what the bytes give, seen so, or ran out of memory
-abbrev pub Stops : {Y : Type 0} → Stop → Result Y DexFault → Type 0
-Stops stops.Memory wanted = Unit {0}
-Stops (stops.Fault fault) wanted = wanted ≡ Err fault
-
-abbrev pub Gives : {X Y : Type 0} → (X → Y) → Result X Stop → Result Y DexFault → Type 0
-Gives view (Ok x) wanted = wanted ≡ Ok (view x)
-Gives view (Err stop) wanted = Stops stop wanted
 
 -- what is reached from x by step 0, step 1, .. below n, or the first fault
 abbrev pub reached : {X : Type 0} → (ℕ → X → Result X DexFault) → X → ℕ → Result X DexFault

@@ -6,13 +6,13 @@ ghost use Rattle.dex_tables.specs.Rows.{class_count, string_count, string_text, 
 ghost use Rattle.dex_tables.specs.Reading.{IsReading};
 ghost use Rattle.dex_code.specs.ClassData.{row_count, row_class};
 ghost use Rattle.dex_code.specs.Content.{AreMembersOf, MemberLists};
-ghost use Rattle.dex_code.specs.Reading.{Gives, last_id, index_after, repeats, is_of_class, is_own, code_offset_at, entry_at, with_entry, entries_at, class_data_at, members_at};
+ghost use Rattle.dex_tables.specs.Reading.{Gives};
+ghost use Rattle.dex_code.specs.Reading.{last_id, index_after, repeats, is_of_class, is_own, code_offset_at, entry_at, with_entry, entries_at, class_data_at, members_at};
 
 use crate::members::{ClassMembers, Member};
 use crate::numbers::uleb_from;
-use crate::stop::Stop;
 use dex_bytes::{DexFault, header_from};
-use dex_tables::{Tables, string_bytes};
+use dex_tables::{Stop, Tables, string_bytes};
 use ns_base::{Counted, limit};
 use std::alloc::Global;
 

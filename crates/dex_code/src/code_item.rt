@@ -4,14 +4,14 @@ ghost use Rattle.dex_tables.specs.Content.{AreTablesOf};
 ghost use Rattle.dex_tables.specs.Reading.{IsReading, list_below};
 ghost use Rattle.dex_code.specs.CodeItem.{code_unit};
 ghost use Rattle.dex_code.specs.Content.{IsCodeOf, CodeContent};
-ghost use Rattle.dex_code.specs.Reading.{Gives, front_at, code_at};
+ghost use Rattle.dex_tables.specs.Reading.{Gives};
+ghost use Rattle.dex_code.specs.Reading.{front_at, code_at};
 
 use crate::code::CodeItem;
 use crate::front::{FRONT_SIZE, ins_from, len_from, outs_from, registers_from};
-use crate::stop::Stop;
 use crate::tries::read_tries;
 use dex_bytes::{DexFault, u16_from};
-use dex_tables::Tables;
+use dex_tables::{Stop, Tables};
 use ns_base::{Counted, limit};
 use std::alloc::{AllocError, Global};
 

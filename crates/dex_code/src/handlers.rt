@@ -4,12 +4,13 @@ ghost use Rattle.std.specs.List.{list_any};
 ghost use Rattle.ns_base.specs.Answers.{limit_of};
 ghost use Rattle.dex_code.specs.HandlerPart.{catch_alls};
 ghost use Rattle.dex_code.specs.Order.{IsRising};
-ghost use Rattle.dex_code.specs.Reading.{Gives, list_end_at, lists_at, starts_at, with_address, with_typed, all_typed, with_handlers};
+ghost use Rattle.dex_tables.specs.Reading.{Gives};
+ghost use Rattle.dex_code.specs.Reading.{list_end_at, lists_at, starts_at, with_address, with_typed, all_typed, with_handlers};
 
 use crate::code::Handler;
 use crate::numbers::{numbers_end_from, sleb_from, uleb_from};
-use crate::stop::Stop;
 use dex_bytes::DexFault;
+use dex_tables::Stop;
 use ns_base::{Counted, limit};
 use std::alloc::Global;
 

@@ -12,7 +12,6 @@ mod front;
 mod handlers;
 mod members;
 mod numbers;
-mod stop;
 #[cfg(test)]
 mod tests;
 mod tries;

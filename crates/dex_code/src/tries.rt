@@ -5,7 +5,8 @@ ghost use Rattle.dex_tables.specs.Content.{AreTablesOf};
 ghost use Rattle.dex_code.specs.CodeItem.{code_tries, try_place, covered_before};
 ghost use Rattle.dex_code.specs.HandlerPart.{try_list};
 ghost use Rattle.dex_code.specs.Order.{IsRising};
-ghost use Rattle.dex_code.specs.Reading.{Gives, is_range_bad, range_at, ranges_at, bounds_of, with_try, rows_at, tries_at};
+ghost use Rattle.dex_tables.specs.Reading.{Gives};
+ghost use Rattle.dex_code.specs.Reading.{is_range_bad, range_at, ranges_at, bounds_of, with_try, rows_at, tries_at};
 
 use crate::code::{Handler, TryRow};
 use crate::front::{
@@ -13,9 +14,8 @@ use crate::front::{
     try_place_from, try_start_from,
 };
 use crate::handlers::{Bounds, add_list, begins_list, read_starts};
-use crate::stop::Stop;
 use dex_bytes::DexFault;
-use dex_tables::{Slice, Tables};
+use dex_tables::{Slice, Stop, Tables};
 use ns_base::Counted;
 use std::alloc::Global;
 

@@ -21,5 +21,6 @@ mod tests;
 mod types;
 
 pub use reading::{read_tables, tables_law};
+pub use stop::Stop;
 pub use strings::string_bytes;
 pub use tables::{ClassDef, FieldId, MethodId, ProtoId, Slice, Tables};

@@ -5,6 +5,7 @@ ghost use Rattle.dex_tables.specs.declared.stop.Stop.TheVariants.{Fault, Memory}
 use dex_bytes::DexFault;
 use std::alloc::{AllocError, AllocFailed};
 
+/// Why a part of the reading ends early: a fault of the file, or want of memory.
 #[derive(Drop)]
 pub enum Stop {
     Fault(DexFault),
