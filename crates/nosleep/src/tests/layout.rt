@@ -4,17 +4,19 @@ use dex_bytes::adler32;
 use sha1::Sha1;
 use std::alloc::{AllocError, Global};
 
-/// The code of `onReceive`: its try rows and handlers stand behind the units as bytes.
-pub struct Code {
-    pub registers: u16,
-    pub units: &'static [u16],
-    pub tries: u16,
+/// A class with the static lock `wl` and `onReceive`. The tail stands behind the code's units: the row of a try and
+/// its handler, or nothing.
+#[derive(Clone, Copy)]
+pub struct Class {
+    pub name: &'static str,
+    pub parent: &'static str,
     pub tail: &'static [u8],
 }
 
-const STRINGS: [&str; 24] = [
-    "Lapp/R;",
-    "Landroid/content/BroadcastReceiver;",
+const REGISTERS: u16 = 6;
+
+// The strings behind the names of the class and its parent.
+const STRINGS: [&str; 22] = [
     "Landroid/os/PowerManager$WakeLock;",
     "wl",
     "V",
@@ -88,14 +90,14 @@ impl Bytes {
     }
 }
 
-/// The file of the class `Lapp/R;` with the static lock `wl` and this code.
-pub fn receiver(alloc: Global, code: &Code) -> Result<Vec<u8>, AllocError> {
+/// The file of this class, with the units of these parts one after the other as its code.
+pub fn dex(alloc: Global, class: &Class, parts: &[&[u16]]) -> Result<Vec<u8>, AllocError> {
     let mut data = Bytes(Vec::new(alloc));
     let lists = type_lists(alloc, &mut data)?;
-    let texts = texts(alloc, &mut data)?;
+    let texts = texts(alloc, &mut data, class)?;
     let members = data.here();
     class_data(&mut data)?;
-    code_item(&mut data, code)?;
+    code_item(alloc, &mut data, class, parts)?;
     let size = data.here();
     let mut tail = Bytes(Vec::new(alloc));
     header(&mut tail, size)?;
@@ -121,9 +123,9 @@ fn type_lists(alloc: Global, data: &mut Bytes) -> Result<Vec<u32>, AllocError> {
     Ok(places)
 }
 
-fn texts(alloc: Global, data: &mut Bytes) -> Result<Vec<u32>, AllocError> {
+fn texts(alloc: Global, data: &mut Bytes, class: &Class) -> Result<Vec<u32>, AllocError> {
     let mut places = Vec::new(alloc);
-    for text in STRINGS {
+    for text in [class.name, class.parent].iter().chain(STRINGS.iter()) {
         places.push(data.here())?;
         data.0.push(u8::try_from(text.len()).unwrap_or(0))?;
         data.0.extend_from_slice(text.as_bytes())?;
@@ -142,19 +144,26 @@ fn class_data(data: &mut Bytes) -> Result<(), AllocError> {
     data.align()
 }
 
-fn code_item(data: &mut Bytes, code: &Code) -> Result<(), AllocError> {
-    for front in [code.registers, 3, 255, code.tries] {
+fn code_item(
+    alloc: Global,
+    data: &mut Bytes,
+    class: &Class,
+    parts: &[&[u16]],
+) -> Result<(), AllocError> {
+    let tries = u16::from(!class.tail.is_empty());
+    for front in [REGISTERS, 3, 255, tries] {
         data.u16(front)?;
     }
     data.u32(0)?;
-    data.u32(u32::try_from(code.units.len()).unwrap_or(0))?;
-    for unit in code.units {
+    let units: Vec<u16> = parts.concat(alloc)?;
+    data.u32(u32::try_from(units.len()).unwrap_or(0))?;
+    for unit in &units {
         data.u16(*unit)?;
     }
-    if code.tries != 0 && code.units.len() % 2 == 1 {
-        data.u16(0)?;
+    if tries != 0 {
+        data.align()?;
     }
-    data.0.extend_from_slice(code.tail)
+    data.0.extend_from_slice(class.tail)
 }
 
 // The header from the file size on.

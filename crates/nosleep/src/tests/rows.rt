@@ -1,0 +1,268 @@
+//! What `receiver` answers to classes of straight-line code. A new lock has status C0 in its field, one that is acquired
+//! C1, C2 and then CT; L is a lock that is held and lost to its field. A broadcast may follow on any other.
+use super::layout::Class;
+use ns_base::Exit;
+
+/// An exit, and the text that is written with it.
+pub type Told = (Exit, &'static str);
+
+/// What a row shows; the class of the file; its code in parts; the answer.
+pub type Row = (&'static str, Class, &'static [&'static [u16]], Told);
+
+pub const ACCEPTED: Told = (Exit::Accept, "accept\n");
+
+pub const NOT_BUILT: Told = (Exit::Bad, "bad dex 0 NotBuilt\n");
+
+const C1_AND_LOST: Told = (
+    Exit::Reports,
+    "report 1 of 2: Lapp/R;->wl is C1 after Lapp/R;->onReceive
+report 2 of 2: Lapp/R;->wl is L after Lapp/R;->onReceive
+",
+);
+
+const C2_CT_AND_LOST: Told = (
+    Exit::Reports,
+    "report 1 of 3: Lapp/R;->wl is C2 after Lapp/R;->onReceive
+report 2 of 3: Lapp/R;->wl is CT after Lapp/R;->onReceive
+report 3 of 3: Lapp/R;->wl is L after Lapp/R;->onReceive
+",
+);
+
+const LOST: Told = (
+    Exit::Reports,
+    "report 1 of 1: Lapp/R;->wl is L after Lapp/R;->onReceive\n",
+);
+
+const SHOWN: Told = (
+    Exit::Reports,
+    "report 1 of 2: Lan\\x20app/R;->wl is C1 after Lan\\x20app/R;->onReceive
+report 2 of 2: Lan\\x20app/R;->wl is L after Lan\\x20app/R;->onReceive
+",
+);
+
+// ---- units, on the context in v4
+// The power manager of the context makes a lock, in v0.
+const MAKE: &[u16] = &[
+    0x001a, 9, 0x206e, 1, 0x0004, 0x000c, 0x001f, 8, 0x1112, 0x021a, 15, 0x306e, 2, 0x0210, 0x000c,
+];
+
+const PUT: &[u16] = &[0x0069, 0];
+
+const GET: &[u16] = &[0x0062, 0];
+
+const ACQUIRE: &[u16] = &[0x106e, 3, 0];
+
+const RELEASE: &[u16] = &[0x106e, 4, 0];
+
+// The string in v2 is no lock.
+const RELEASE_STRING: &[u16] = &[0x106e, 4, 2];
+
+// What v0 has goes to getSystemService in the place of a name.
+const PASS: &[u16] = &[0x206e, 1, 0x0004];
+
+const GC: &[u16] = &[0x0071, 5, 0];
+
+const NULL: &[u16] = &[0x0012];
+
+const NOP: &[u16] = &[0x0000];
+
+const RETURN: &[u16] = &[0x000e];
+
+// ---- classes
+/// A receiver.
+pub const R: Class = Class {
+    name: "Lapp/R;",
+    parent: "Landroid/content/BroadcastReceiver;",
+    tail: &[],
+};
+
+// One try, of the three units at 22, with a handler at 31.
+const TRY: Class = Class {
+    tail: &[22, 0, 0, 0, 3, 0, 1, 0, 1, 1, 11, 31],
+    ..R
+};
+
+const BLANK: Class = Class {
+    name: "Lan app/R;",
+    ..R
+};
+
+const CONTEXT: Class = Class {
+    name: "Landroid/content/Context;",
+    ..R
+};
+
+const THREAD: Class = Class {
+    parent: "Ljava/lang/Thread;",
+    ..R
+};
+
+const CONTEXT_THREAD: Class = Class {
+    name: "Landroid/content/Context;",
+    ..THREAD
+};
+
+// ---- code
+/// Acquired and released.
+pub const WORKS: &[&[u16]] = &[MAKE, PUT, GET, ACQUIRE, GET, RELEASE, RETURN];
+
+const LEAKS: &[&[u16]] = &[MAKE, PUT, GET, ACQUIRE, RETURN];
+
+// What the handler of a try does follows the return.
+const HANDLES: &[&[u16]] = &[
+    MAKE,
+    PUT,
+    GET,
+    ACQUIRE,
+    GC,
+    GET,
+    RELEASE,
+    RETURN,
+    &[0x000d],
+    RETURN,
+];
+
+pub static ROWS: [Row; 33] = [
+    ("acquired and released", R, WORKS, ACCEPTED),
+    ("only returns", R, &[RETURN], ACCEPTED),
+    ("does nothing, and returns", R, &[NOP, RETURN], ACCEPTED),
+    (
+        "acquired twice and released twice",
+        R,
+        &[
+            MAKE, PUT, GET, ACQUIRE, GET, ACQUIRE, GET, RELEASE, GET, RELEASE, RETURN,
+        ],
+        ACCEPTED,
+    ),
+    (
+        "released before null is stored",
+        R,
+        &[MAKE, PUT, GET, ACQUIRE, GET, RELEASE, NULL, PUT, RETURN],
+        ACCEPTED,
+    ),
+    (
+        "a release at count zero throws, so nothing is acquired",
+        R,
+        &[MAKE, PUT, GET, RELEASE, GET, ACQUIRE, RETURN],
+        ACCEPTED,
+    ),
+    (
+        "an acquire of null throws, so no lock is made",
+        R,
+        &[GET, ACQUIRE, MAKE, PUT, RETURN],
+        ACCEPTED,
+    ),
+    (
+        "a parent is a thread, and no call is of this class",
+        THREAD,
+        WORKS,
+        ACCEPTED,
+    ),
+    (
+        "the class has the name of the context",
+        CONTEXT,
+        WORKS,
+        ACCEPTED,
+    ),
+    ("acquired and not released", R, LEAKS, C1_AND_LOST),
+    (
+        "acquired twice and released once",
+        R,
+        &[MAKE, PUT, GET, ACQUIRE, GET, ACQUIRE, GET, RELEASE, RETURN],
+        C1_AND_LOST,
+    ),
+    (
+        "acquired three times and released once: two levels or more",
+        R,
+        &[
+            MAKE, PUT, GET, ACQUIRE, GET, ACQUIRE, GET, ACQUIRE, GET, RELEASE, RETURN,
+        ],
+        C2_CT_AND_LOST,
+    ),
+    (
+        "null is stored over a held lock",
+        R,
+        &[MAKE, PUT, GET, ACQUIRE, NULL, PUT, RETURN],
+        LOST,
+    ),
+    ("a name with a blank is shown", BLANK, LEAKS, SHOWN),
+    (
+        "a context that is a thread",
+        CONTEXT_THREAD,
+        WORKS,
+        NOT_BUILT,
+    ),
+    ("a try", TRY, HANDLES, NOT_BUILT),
+    (
+        "a new lock is stored over a held one",
+        R,
+        &[MAKE, PUT, GET, ACQUIRE, MAKE, PUT, RETURN],
+        NOT_BUILT,
+    ),
+    (
+        "what the field has is stored",
+        R,
+        &[MAKE, PUT, GET, PUT, RETURN],
+        NOT_BUILT,
+    ),
+    (
+        "a lock is acquired that is in no field",
+        R,
+        &[MAKE, ACQUIRE, RETURN],
+        NOT_BUILT,
+    ),
+    (
+        "a lock is passed to another call",
+        R,
+        &[MAKE, PUT, GET, PASS, RETURN],
+        NOT_BUILT,
+    ),
+    (
+        "a string is released",
+        R,
+        &[MAKE, PUT, RELEASE_STRING, RETURN],
+        NOT_BUILT,
+    ),
+    (
+        "an outside call",
+        R,
+        &[MAKE, PUT, GET, ACQUIRE, GC, GET, RELEASE, RETURN],
+        NOT_BUILT,
+    ),
+    ("a goto", R, &[&[0x0128], RETURN], NOT_BUILT),
+    ("a branch", R, &[NULL, &[0x0038, 2], RETURN], NOT_BUILT),
+    ("a move", R, &[NULL, &[0x0101], RETURN], NOT_BUILT),
+    ("no opcode", R, &[&[0x003e], RETURN], NOT_BUILT),
+    (
+        "a string past the table",
+        R,
+        &[&[0x001a, 24], RETURN],
+        NOT_BUILT,
+    ),
+    (
+        "a field past the table",
+        R,
+        &[&[0x0062, 1], RETURN],
+        NOT_BUILT,
+    ),
+    (
+        "a method past the table",
+        R,
+        &[&[0x106e, 6, 4], RETURN],
+        NOT_BUILT,
+    ),
+    (
+        "a register past the registers",
+        R,
+        &[&[0x061a, 9], RETURN],
+        NOT_BUILT,
+    ),
+    (
+        "fewer argument words than the method takes",
+        R,
+        &[&[0x106e, 1, 4], RETURN],
+        NOT_BUILT,
+    ),
+    ("falls off its end", R, &[MAKE, PUT], NOT_BUILT),
+    ("no code unit", R, &[], NOT_BUILT),
+];
