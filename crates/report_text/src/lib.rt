@@ -6,3 +6,6 @@ mod texts;
 
 pub use heads::heads_text;
 pub use texts::{accept, cannot_read, not_built, usage};
+
+#[cfg(test)]
+mod tests;
