@@ -186,7 +186,7 @@ fn field_from(bytes: &[u8], tables: &Tables, lock: Member) -> FieldRow
     }
 }
 
-/// What the instructions of a body name.
+// What the instructions of a body name.
 fn operands_from(
     alloc: Global,
     bytes: &[u8],

@@ -3,4 +3,4 @@ pub mod Laws
 pub mod Lists
 pub mod MaskLaws
 pub mod TagLaws
-pub mod Tests
+pub mod TestLaws

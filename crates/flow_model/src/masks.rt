@@ -142,7 +142,7 @@ fn with_status(column: &[u8; 8], mask: u8, s: usize, image: u8) -> u8
     }
 }
 
-// Whether a mask has a status.
+/// Whether a mask has a status.
 pub fn has_status(mask: u8, s: usize) -> bool
     requires { s < 8 }
     ensures { result ≡ in_mask mask s }

@@ -104,7 +104,7 @@ pub fn tag_in(row: &[Tag], register: u32) -> Tag
     }
 }
 
-// The tag of a call's receiver.
+/// The tag of a call's receiver.
 pub(crate) fn receiver_tag(row: &[Tag], args: &Args) -> Tag
     ensures { result ≡ changes.tag_in row.now (acts.receiver_of args.now) }
 {
@@ -143,6 +143,7 @@ fn is_field(lock: LockNo, tag: Tag) -> bool
     }
 }
 
+/// Whether a call is one of a lock's methods in a known form.
 pub(crate) fn is_lock_call(usage: LockUse) -> bool
     ensures { result ≡ spec.is_lock_call usage }
 {
@@ -152,6 +153,7 @@ pub(crate) fn is_lock_call(usage: LockUse) -> bool
     }
 }
 
+/// Whether a lock field that is read or written is this one.
 pub(crate) fn is_slot(lock: LockNo, slot: Option<LockNo>) -> bool
     ensures { result ≡ spec.is_slot lock.0 slot }
 {

@@ -1,8 +1,9 @@
-//! The status table at the cases that tell most, joins, and what instructions do to statuses and tags.
+//! The status table at the cases that tell most, joins, what instructions do to statuses and tags, and
+//! which of them break a rule of scope.
 use crate::{
     Act, Gives, acquires, after_acquire, after_is_held, after_mode, after_null, after_release,
-    after_store, apply, apply_thrown, held_test, image, is_own, join, null_test, pass_mask, tag_in,
-    throws,
+    after_store, apply, apply_thrown, held_test, image, is_escape, is_own, is_wrong_call, join,
+    null_test, pass_mask, stores_new, tag_in, throws,
 };
 use app_model::{Args, LockUse, Tag};
 use ns_base::LockNo;
@@ -183,4 +184,64 @@ fn a_release_forgets_whether_its_lock_is_held(rt: HostRuntime) {
     assert_eq!(rt; thrown, [field, Tag::Any, Tag::Held(LockNo(1)), Tag::Any]);
     apply(&mut row, 0, release);
     assert_eq!(rt; row, [field, Tag::Any, Tag::Held(LockNo(1)), Tag::Zero]);
+}
+
+fn write_elsewhere(from: u32) -> Act {
+    Act::WriteStatic { from, slot: None }
+}
+
+// A call whose receiver and, if `count` is 2, argument are in these registers.
+fn listed(usage: LockUse, receiver: u32, second: u32, count: u8) -> Act {
+    Act::Call {
+        usage,
+        args: Args::List {
+            count,
+            registers: [receiver, second, 0, 0, 0],
+        },
+        gives: Gives::Nothing,
+    }
+}
+
+#[test]
+fn a_lock_goes_only_where_it_is_followed(rt: HostRuntime) {
+    let row = [
+        Tag::Field(LockNo(0)),
+        Tag::New(3),
+        Tag::Solid,
+        Tag::Any,
+        Tag::Zero,
+        Tag::Mixed,
+    ];
+    let nothing = Gives::Nothing;
+    for (act, escapes, wrong, stores) in [
+        (call(LockUse::Plain, 0, nothing), true, false, false),
+        (call(LockUse::Plain, 2, nothing), false, false, false),
+        (listed(LockUse::Plain, 2, 0, 2), true, false, false),
+        (listed(LockUse::Plain, 2, 0, 1), false, false, false),
+        (call(LockUse::Acquire, 0, nothing), false, false, false),
+        (call(LockUse::Acquire, 1, nothing), true, false, false),
+        (call(LockUse::Acquire, 3, nothing), false, true, false),
+        (call(LockUse::Acquire, 4, nothing), false, false, false),
+        (call(LockUse::Release, 2, nothing), false, true, false),
+        (call(LockUse::Wrong, 4, nothing), false, true, false),
+        (listed(LockUse::Mode, 0, 4, 2), false, false, false),
+        (listed(LockUse::Mode, 0, 5, 2), true, false, false),
+        (write(1, 0), false, false, true),
+        (write(1, 1), false, false, false),
+        (write(4, 0), false, false, false),
+        (write(0, 0), true, false, false),
+        (write(2, 0), true, false, false),
+        (write_elsewhere(1), true, false, false),
+        (write_elsewhere(2), false, false, false),
+    ] {
+        assert_eq!(rt;
+            (
+                is_escape(act, &row),
+                is_wrong_call(act, &row),
+                stores_new(LockNo(0), act, &row)
+            ),
+            (escapes, wrong, stores),
+            "{act:?}"
+        );
+    }
 }

@@ -1,4 +1,4 @@
-//! The texts that the program writes.
+//! The lines of all answers but reports, and names as they are shown.
 ghost use Rattle.std.specs.Prelude.{◌≡◌, ◌+◌, ◌++◌, ◌<◌, length, IfOk};
 ghost use Rattle.report_text.specs.Texts.{usage_text, accept_text, not_built_text, cannot_read_text, shown, shown_byte, is_plain, hex_digit};
 
@@ -16,7 +16,7 @@ pub fn usage(alloc: Global) -> Result<Vec<u8>, AllocError>
     lines.to_vec(alloc)
 }
 
-/// No lock can be held.
+/// The rules derive no violation.
 pub fn accept(alloc: Global) -> Result<Vec<u8>, AllocError>
     ensures { IfOk result (λ text. text.items ≡ accept_text) }
 {

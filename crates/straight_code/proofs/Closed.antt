@@ -17,7 +17,7 @@ use Rattle.flow_model.specs.Rules.{Inside, I1, I1_return, I2, I3, I3_leaves, Sta
 use Rattle.straight_code.specs.Body.{IsPlainBody}
 use Rattle.straight_code.specs.Path.{row_before, on_path, path_subject}
 use Rattle.straight_code.specs.Reached.{IsReached, at_start, by_step}
-use Rattle.flow_model.proofs.Tests.{both, and_join, same_number, number_same, below_is, is_below, in_mask_below, below_some, some_below, none_some}
+use Rattle.flow_model.proofs.TestLaws.{both, and_join, same_number, number_same, below_is, is_below, in_mask_below, below_some, some_below, none_some}
 use Rattle.std.proofs.lemmas.Bool.{cases_order, cases_lt}
 use Rattle.flow_model.proofs.MaskLaws.{IsIn-zero}
 use Rattle.straight_code.proofs.Plain.{one_way, no_handler, no_return, returns_last, no_way_past, no_handler_past, no_return_past}

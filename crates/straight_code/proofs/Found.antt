@@ -18,7 +18,7 @@ use Rattle.straight_code.specs.Body.{IsPlainBody}
 use Rattle.straight_code.specs.Path.{row_before, on_path, path_subject}
 use Rattle.straight_code.specs.Reached.{IsReached, at_start, by_step}
 use Rattle.straight_code.specs.Verdict.{AreHeld, HasExactSet}
-use Rattle.flow_model.proofs.Tests.{both, same_number, some_below, below_some}
+use Rattle.flow_model.proofs.TestLaws.{both, same_number, some_below, below_some}
 use Rattle.straight_code.proofs.Plain.{returns_last, acquired_before}
 use Rattle.straight_code.proofs.Closed.{leads, path_facts, comes_by, closed, view_first, only_callback, entered_same, ended}
 

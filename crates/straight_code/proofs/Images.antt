@@ -10,7 +10,7 @@ use Rattle.flow_model.specs.Masks.{in_mask, IsImage}
 use Rattle.flow_model.specs.Passes.{passes, only}
 use Rattle.flow_model.specs.Subject.{passes_by}
 use Rattle.flow_model.proofs.MaskLaws.{IsIn-lt, IsIn-bit, IsIn-from}
-use Rattle.flow_model.proofs.Tests.{both, and_join, same_number, number_same, below_is, some_below, below_some}
+use Rattle.flow_model.proofs.TestLaws.{both, and_join, same_number, number_same, below_is, some_below, below_some}
 use Rattle.straight_code.specs.Path.{row_before, on_path}
 use Rattle.straight_code.specs.Walk.{AreImages, IsColumn}
 use Rattle.straight_code.proofs.Closed.{comes_by}

@@ -12,7 +12,7 @@ use Rattle.flow_model.proofs.MaskLaws.{IsIn-zero, IsCut-and}
 use Rattle.flow_model.specs.Policy.{AreViolations, MeetsPolicy, is_held}
 use Rattle.flow_model.specs.Subject.{SubjectParts}
 use Rattle.flow_model.specs.Scope.{is_escape, is_wrong_call, stores_new}
-use Rattle.flow_model.proofs.Tests.{some_below, below_some, in_mask_below}
+use Rattle.flow_model.proofs.TestLaws.{some_below, below_some, in_mask_below}
 use Rattle.straight_code.specs.declared.path.Walk.{Walk}
 use Rattle.straight_code.specs.Body.{IsPlainBody}
 use Rattle.straight_code.specs.Path.{path_subject, row_before, on_path, acquires_at}

@@ -9,7 +9,7 @@ use Rattle.app_model.specs.Parts.{AppParts}
 use Rattle.flow_model.specs.declared.policy.Violation.{Violation}
 use Rattle.flow_model.specs.Masks.{in_mask}
 use Rattle.flow_model.specs.Policy.{AreViolations, ComesBefore, IsDerivableViolation}
-use Rattle.flow_model.proofs.Tests.{in_mask_below, none_some}
+use Rattle.flow_model.proofs.TestLaws.{in_mask_below, none_some}
 use Rattle.straight_code.specs.Path.{path_subject, receiver}
 use Rattle.straight_code.specs.Verdict.{AreHeld, violation_at, one_if_in, violations_below}
 

@@ -18,7 +18,7 @@ use Rattle.flow_model.specs.Policy.{acquires}
 use Rattle.std.proofs.lemmas.Bool.{cases_order}
 use Rattle.app_model.specs.declared.tag.Tag.{Tag}
 use Rattle.straight_code.specs.Body.{IsPlainBody, is_plain, is_plain_at}
-use Rattle.flow_model.proofs.Tests.{none_after, none_past, none_some}
+use Rattle.flow_model.proofs.TestLaws.{none_after, none_past, none_some}
 
 -- ---- one way on
 one_way_by : (p : Option Place) (i k j : ℕ) → successor_of p 1 ≡ None → successor_of p 0 ≡ Some (i + 1) → successor_of p k ≡ Some j → (k ≡ 0) × (j ≡ i + 1)

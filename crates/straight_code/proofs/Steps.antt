@@ -9,7 +9,7 @@ use Rattle.flow_model.specs.Entries.{site_at, makes_lock, one_if}
 use Rattle.flow_model.specs.Masks.{any_below}
 use Rattle.flow_model.specs.Policy.{acquires}
 use Rattle.flow_model.specs.Scope.{stores_new}
-use Rattle.flow_model.proofs.Tests.{any_below_next}
+use Rattle.flow_model.proofs.TestLaws.{any_below_next}
 use Rattle.straight_code.specs.Path.{row_before, acquires_at}
 use Rattle.straight_code.specs.Scope.{stores_new_at}
 

@@ -1,7 +1,8 @@
 //! Judges a receiver whose one callback is straight-line code over one static lock field.
 //!
-//! - `body` tells such code, and `scope` the rules that it must not break.
-//! - `path` follows the tags and the statuses along it.
+//! - `body` tells such code.
+//! - `threads` tells calls of threads.
+//! - `path` follows the tags and the statuses along it, as far as no rule of scope is broken.
 //! - `views` finds the statuses between callbacks.
 //! - `verdict` joins them: `judge`.
 #![tactic(auto)]

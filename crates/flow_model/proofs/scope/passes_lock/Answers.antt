@@ -1,7 +1,7 @@
-use Rattle.std.proofs.Common.{rules, ◌≡◌, ℕ, ◌&&◌, nat_le, true, sym, ◌∙◌}
+use Rattle.std.proofs.Common.{rules, ℕ, ◌&&◌, nat_le, sym}
 use Rattle.flow_model.specs.Scope as spec
 use Rattle.flow_model.specs.Changes.{tag_in}
-use Rattle.flow_model.proofs.Tests.{below_some}
+use Rattle.flow_model.proofs.TestLaws.{below_some}
 use Rattle.flow_model.proofs.scope.passes_lock.Goals as goal
 
 -- src/scope.rt:65:13
