@@ -11,13 +11,13 @@ mod status;
 mod tags;
 
 pub use act::{Act, Gives, act_of};
-pub use changes::{apply, apply_thrown};
+pub use changes::{apply, apply_thrown, top_after};
 pub use masks::{
     Branches, Outcome, after_acquire, after_is_held, after_mode, after_null, after_release,
     after_store, has_status, held_test, image, null_test,
 };
-pub use policy::Violation;
 pub use passes::{acquires, is_own, pass_mask, tag_in, throws};
+pub use policy::Violation;
 pub use scope::{is_escape, is_wrong_call, stores_new};
 pub use tags::join;
 
