@@ -1,6 +1,6 @@
 -- The tags of a method's registers from instruction to instruction. A row has a tag for each register, and the last
 -- one for the result cell.
-use Rattle.std.specs.Prelude.{ℕ, pred, ◌==◌, List, Option, Some, None, if◌then◌else◌, length, map, slice_index_or, slice_set}
+use Rattle.std.specs.Prelude.{ℕ, pred, max, ◌+◌, ◌<◌, ◌≤◌, ◌≡◌, ◌==◌, Bool, true, false, List, Option, Some, None, if◌then◌else◌, length, map, slice_index_or, slice_set}
 use Rattle.ns_base.specs.declared.rows.LockNo.{LockNo}
 use Rattle.app_model.specs.declared.tag.Tag.{Tag}
 use Rattle.app_model.specs.declared.tag.Tag.TheVariants.{Bot, Zero, Solid, Held, Any, Field, New, Mixed}
@@ -129,3 +129,33 @@ after site (WriteStatic from slot) row = after_write row from slot
 after site (Call usage arguments gives) row =
     slice_set (thrown (Call usage arguments gives) row) (result_cell row) (result_tag site usage gives (tag_in row (receiver_of arguments)))
 after site Other row = row
+
+-- ---- the registers that need no walk
+-- a tag that no lock call on another register and no store changes
+abbrev pub is_steady : Tag → Bool
+is_steady Bot = true
+is_steady Zero = true
+is_steady Solid = true
+is_steady Any = true
+is_steady Mixed = true
+is_steady (Held k) = false
+is_steady (Field k) = false
+is_steady (New s) = false
+
+-- the registers from `top` on have such tags; the result cell may have any
+abbrev pub IsSteadyFrom : List Tag → ℕ → Type 0
+IsSteadyFrom row top = (r : ℕ) → top ≤ r → r < result_cell row → is_steady (tag_in row r) ≡ true
+
+-- the first register that is neither below `top` nor written, nor below a written one
+abbrev pub top_after : ℕ → Act → ℕ
+top_after top (TakeResult to) = max top (to + 1)
+top_after top (WriteZero to) = max top (to + 1)
+top_after top (WriteNonzero to) = max top (to + 1)
+top_after top (WriteText to) = max top (to + 1)
+top_after top (ReadStatic to slot) = max top (to + 1)
+top_after top (WriteStatic from slot) = max top (from + 1)
+top_after top (Call usage arguments gives) = top
+top_after top Nop = top
+top_after top ReturnVoid = top
+top_after top CheckCast = top
+top_after top Other = top

@@ -22,7 +22,7 @@ mod status;
 mod tags;
 
 pub use act::{Act, Gives, act_of};
-pub use changes::{apply, apply_thrown};
+pub use changes::{apply, apply_thrown, top_after};
 pub use masks::{
     Branches, Outcome, after_acquire, after_is_held, after_mode, after_null, after_release,
     after_store, has_status, held_test, image, null_test,

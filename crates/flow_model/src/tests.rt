@@ -166,7 +166,7 @@ fn a_new_lock_is_stored_and_cleared(rt: HostRuntime) {
         (write(0, 0), [field, Tag::Zero, other, Tag::Mixed]),
         (write(1, 0), [Tag::Mixed, Tag::Zero, other, Tag::Mixed]),
     ] {
-        apply(&mut row, 5, act);
+        apply(&mut row, 4, 5, act);
         assert_eq!(rt; row, want, "after {act:?}");
     }
 }
@@ -175,14 +175,14 @@ fn a_new_lock_is_stored_and_cleared(rt: HostRuntime) {
 fn a_release_forgets_whether_its_lock_is_held(rt: HostRuntime) {
     let (field, held) = (Tag::Field(LockNo(0)), Tag::Held(LockNo(0)));
     let mut row = [field, Tag::Bot, Tag::Held(LockNo(1)), Tag::Any];
-    apply(&mut row, 0, call(LockUse::IsHeld, 0, Gives::Number));
-    apply(&mut row, 0, Act::TakeResult { to: 1 });
+    apply(&mut row, 4, 0, call(LockUse::IsHeld, 0, Gives::Number));
+    apply(&mut row, 4, 0, Act::TakeResult { to: 1 });
     assert_eq!(rt; row, [field, held, Tag::Held(LockNo(1)), held]);
     let release = call(LockUse::Release, 0, Gives::Nothing);
     let mut thrown = row;
-    apply_thrown(&mut thrown, release);
+    apply_thrown(&mut thrown, 4, release);
     assert_eq!(rt; thrown, [field, Tag::Any, Tag::Held(LockNo(1)), Tag::Any]);
-    apply(&mut row, 0, release);
+    apply(&mut row, 4, 0, release);
     assert_eq!(rt; row, [field, Tag::Any, Tag::Held(LockNo(1)), Tag::Zero]);
 }
 

@@ -1,11 +1,12 @@
 -- What a walk knows after one more instruction.
-use Rattle.std.proofs.Common.{◌≡◌, ◌+◌, ◌||◌, ℕ, Bool, List, Some, refl, add-one, add_assoc}
+use Rattle.std.proofs.Common.{◌≡◌, ◌+◌, ◌-◌, ◌++◌, ◌||◌, ℕ, zero, suc, Bool, true, List, [], ◌∷◌, replicate, Some, refl, add-one, add_assoc}
 use Rattle.app_model.specs.declared.tag.Tag.{Tag}
+use Rattle.app_model.specs.declared.tag.Tag.TheVariants.{Zero, Any}
 use Rattle.app_model.specs.Parts.{AppParts}
 use Rattle.flow_model.specs.declared.act.Act.{Act}
 use Rattle.flow_model.specs.Acts.{act_at}
-use Rattle.flow_model.specs.Changes.{after}
-use Rattle.flow_model.specs.Entries.{site_at, makes_lock, one_if}
+use Rattle.flow_model.specs.Changes.{IsSteadyFrom, after, is_steady, tag_in}
+use Rattle.flow_model.specs.Entries.{arguments_row, callback_row, site_at, makes_lock, one_if}
 use Rattle.flow_model.specs.Masks.{any_below}
 use Rattle.flow_model.specs.Policy.{acquires}
 use Rattle.flow_model.specs.Scope.{stores_new}
@@ -13,6 +14,30 @@ use Rattle.flow_model.proofs.TestLaws.{any_below_next}
 use Rattle.straight_code.specs.Path.{row_before, acquires_at}
 use Rattle.straight_code.specs.Scope.{stores_new_at}
 
+-- ---- the tags at the entry
+steady_many : (tag : Tag) (n r : ℕ) → is_steady tag ≡ true → is_steady (tag_in (replicate n tag) r) ≡ true
+steady_many tag zero r s = refl
+steady_many tag (suc n) zero s = s
+steady_many tag (suc n) (suc r) s = steady_many tag n r s
+
+steady_both : (row more : List Tag) → ((r : ℕ) → is_steady (tag_in row r) ≡ true) → ((r : ℕ) → is_steady (tag_in more r) ≡ true)
+    → (r : ℕ) → is_steady (tag_in (row ++ more) r) ≡ true
+steady_both [] more s t r = t r
+steady_both (tag ∷ row) more s t zero = s 0
+steady_both (tag ∷ row) more s t (suc r) = steady_both row more (λ q. s (suc q)) t r
+
+steady_arguments : (ins r : ℕ) → is_steady (tag_in (arguments_row ins) r) ≡ true
+steady_arguments zero r = refl
+steady_arguments (suc n) zero = refl
+steady_arguments (suc n) (suc r) = steady_many Any n r refl
+
+pub entry_steady : (registers ins : ℕ) → IsSteadyFrom (callback_row registers ins) 0
+entry_steady registers ins r l m =
+    steady_both (replicate (registers - ins) Zero ++ arguments_row ins) (Zero ∷ [])
+    (steady_both (replicate (registers - ins) Zero) (arguments_row ins) (λ q. steady_many Zero (registers - ins) q refl) (steady_arguments ins))
+    (λ q. steady_many Zero 1 q refl) r
+
+-- ---- one instruction on
 module _ (app : AppParts) (i : ℕ) (act : Act) (there : act_at app 0 i ≡ Some act) where
   pub row_on : (site : ℕ) (old new : List Tag) → site ≡ site_at app 0 i → old ≡ row_before app 0 i → new ≡ after site act old → new ≡ row_before app 0 (i + 1)
   row_on site old new s o n = rw (n, o, s, add-one i, there) refl

@@ -3,6 +3,7 @@ use Rattle.std.specs.Prelude.{ℕ, ◌≡◌, ◌<◌, ◌≤◌, List, slice_in
 use Rattle.app_model.specs.declared.tag.Tag.{Tag}
 use Rattle.app_model.specs.Parts.{AppParts}
 use Rattle.flow_model.specs.declared.act.Act.{Act}
+use Rattle.flow_model.specs.Changes.{IsSteadyFrom}
 use Rattle.flow_model.specs.Entries.{site_at}
 use Rattle.flow_model.specs.Masks.{in_mask, any_below}
 use Rattle.flow_model.specs.Passes.{passes}
@@ -20,6 +21,7 @@ IsColumn act row column = (s : ℕ) → s < 8 → slice_index column s ≡ passe
 
 pub record IsWalk (app : AppParts) (i : ℕ) (walk : Walk) : Type 0 where
   pub row : walk.row.items ≡ row_before app 0 i
+  pub steady : IsSteadyFrom walk.row.items walk.top
   pub images : AreImages app i walk.images
   pub site : walk.site ≡ site_at app 0 i
   pub sites : walk.site ≤ i

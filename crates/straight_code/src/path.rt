@@ -3,7 +3,7 @@ ghost use Rattle.std.specs.Prelude.{◌≡◌, ◌≢◌, ◌↔◌, ◌<◌, �
 ghost use Rattle.app_model.specs.Parts.{AppParts};
 ghost use Rattle.app_model.specs.Words.{code_len};
 ghost use Rattle.flow_model.specs.Acts.{act_at};
-ghost use Rattle.flow_model.specs.Changes.{after};
+ghost use Rattle.flow_model.specs.Changes.{after, top_after, IsSteadyFrom};
 ghost use Rattle.flow_model.specs.Entries.{callback_row, arguments_row, makes_lock, one_if};
 ghost use Rattle.flow_model.specs.Masks.{any_below};
 ghost use Rattle.flow_model.specs.Scope as scope;
@@ -16,7 +16,7 @@ use crate::body::CALLBACK;
 use crate::threads::is_thread_call;
 use app_model::{App, LockUse, Tag};
 use flow_model::{
-    Act, acquires, act_of, apply, image, is_escape, is_wrong_call, pass_mask, stores_new,
+    Act, acquires, act_of, apply, image, is_escape, is_wrong_call, pass_mask, stores_new, top_after,
 };
 use ns_base::LockNo;
 use std::alloc::{AllocError, Global};
@@ -24,11 +24,13 @@ use std::alloc::{AllocError, Global};
 /// The one lock field.
 const LOCK: LockNo = LockNo(0);
 
-/// What is known before an instruction: the tags of the registers, for each status at the entry the
-/// statuses that come here, how many locks were made, and whether one was stored and acquired.
+/// What is known before an instruction: the tags of the registers, the first register from which none
+/// was written, for each status at the entry the statuses that come here, how many locks were made, and
+/// whether one was stored and acquired.
 #[derive(Drop)]
 pub struct Walk {
     row: Vec<Tag>,
+    top: usize,
     images: [u8; 8],
     site: u32,
     stored: bool,
@@ -60,6 +62,7 @@ pub fn enter(alloc: Global, app: &App) -> Result<Walk, AllocError>
     let row = entry_row(alloc, method.registers, method.ins)?;
     Ok(Walk {
         row,
+        top: 0,
         images: [0x01, 0x02, 0x04, 0x08, 0x10, 0x20, 0x40, 0x80],
         site: 0,
         stored: false,
@@ -126,13 +129,15 @@ fn stores_again(walk: &Walk, act: Act) -> bool
 
 // What is known after an act.
 fn move_on(walk: &mut Walk, act: Act)
-    requires { walk.old.site < 4294967295 }
+    requires site { walk.old.site < 4294967295 }
+    requires steady { IsSteadyFrom walk.old.row.items walk.old.top }
     ensures { (app : AppParts) (i : ℕ) → act_at app 0 i ≡ Some act → IsWalk app i walk.old → IsWalk app (i + 1) walk.new }
 {
     walk.stored = stores_new(LOCK, act, walk.row.as_slice()) | walk.stored;
     walk.acquired = acquires(LOCK, act, walk.row.as_slice()) | walk.acquired;
     walk.images = next_images(act, walk.row.as_slice(), &walk.images);
-    apply_to(&mut walk.row, walk.site, act);
+    apply_to(&mut walk.row, walk.top, walk.site, act);
+    walk.top = top_after(walk.top, act);
     walk.site += made_by(act);
 }
 
@@ -161,10 +166,12 @@ fn made_by(act: Act) -> u32
     }
 }
 
-fn apply_to(row: &mut Vec<Tag>, site: u32, act: Act)
-    ensures { row.new.items ≡ after site act row.old.items }
+fn apply_to(row: &mut Vec<Tag>, top: usize, site: u32, act: Act)
+    requires { IsSteadyFrom row.old.items top }
+    ensures tags { row.new.items ≡ after site act row.old.items }
+    ensures steady { IsSteadyFrom row.new.items (top_after top act) }
 {
-    apply(row, site, act);
+    apply(row, top, site, act);
 }
 
 // The images after an act.

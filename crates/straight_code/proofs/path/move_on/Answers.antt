@@ -6,6 +6,7 @@ use Rattle.straight_code.proofs.path.move_on.Goals as goal
 pub returns : goal.returns
 returns c = λ app i there w. record {
   row = row_on app i c.args.act there c.args.walk.now.site c.args.walk.now.row.items c.apply_to.new.row.items w.site w.row (search rules);
+  steady = search rules;
   images = c.next_images-walk.ensures app i there (search (rules, w.row)) (search (rules, w.images));
   site = site_on app i c.args.act there c.args.walk.now.site c.made_by.result w.site (search rules);
   sites = omega (arith, w.sites, c.made_by.ensures.one);
