@@ -1,0 +1,23 @@
+//! A whole DEX file, read once: its tables, its classes with their members, and the control flow of its
+//! methods.
+//!
+//! `specs/Content.antt` says what a file's content is, and `specs/Reading.antt` in which order it is
+//! read and which fault is the first.
+//!
+//! - `fault` says what can be wrong with a file.
+//! - `parts` has what is kept of a file.
+//! - `sums` counts what is limited over the whole file.
+//! - `methods` reads the code of methods, `classes` the class rows.
+//! - `reading` joins these: `read_dex`.
+#![tactic(auto)]
+
+mod classes;
+mod fault;
+mod methods;
+mod parts;
+mod reading;
+mod sums;
+
+pub use fault::FileFault;
+pub use parts::DexParts;
+pub use reading::read_dex;
