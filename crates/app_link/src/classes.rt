@@ -8,7 +8,7 @@ ghost use Rattle.app_link.specs.Exact.{IsExact, Gives, in_dex};
 ghost use Rattle.app_link.specs.Reading.{class_of, classes_at, field_of, list_in, with_class};
 
 use crate::fault::{FileFault, dex_fault_of};
-use crate::methods::{Methods, read_methods};
+use crate::methods::read_methods;
 use crate::parts::{FileClass, FileField, FileMethod};
 use crate::sums::Sums;
 use dex_bytes::header_from;
@@ -45,13 +45,14 @@ pub fn copy_list(alloc: Global, lists: &[u16], part: Slice) -> Result<Vec<u16>, 
 fn fields_of(alloc: Global, members: &[Member]) -> Result<Vec<FileField>, AllocError>
     ensures { IfOk result (λ fields. fields.items ≡ map field_of members.now) }
 {
-    members
-        .iter()
-        .map(|member| FileField {
+    let mut fields = Vec::with_capacity(alloc, members.len())?;
+    for member in members {
+        fields.push(FileField {
             id: member.id,
             flags: member.flags,
-        })
-        .collect(alloc)
+        })?;
+    }
+    Ok(fields)
 }
 
 fn read_members(
@@ -126,16 +127,16 @@ impl Classes {
         let sums = self.sums.add_members(&members)?;
         let directs = read_methods(alloc, bytes, tables, sums, &members.directs)?;
         let virtuals = read_methods(alloc, bytes, tables, directs.sums, &members.virtuals)?;
-        let Methods { sums, methods } = virtuals;
+        let lists = &tables.lists;
         let class = make_class(
             alloc,
-            &tables.lists,
+            lists,
             row,
             &members,
             directs.methods,
-            methods,
+            virtuals.methods,
         )?;
-        self.push(class, sums)?;
+        self.push(class, virtuals.sums)?;
         Ok(())
     }
 }

@@ -17,6 +17,8 @@ mod methods;
 mod parts;
 mod reading;
 mod sums;
+#[cfg(test)]
+mod tests;
 
 pub use fault::FileFault;
 pub use parts::DexParts;
