@@ -12,14 +12,19 @@
 #![tactic(auto)]
 
 mod classes;
+mod code_checks;
 mod fault;
+mod link_fault;
 mod methods;
+mod numbers;
 mod parts;
 mod reading;
+mod seen;
 mod sums;
 #[cfg(test)]
 mod tests;
 
 pub use fault::FileFault;
+pub use link_fault::LinkFault;
 pub use parts::DexParts;
 pub use reading::read_dex;
