@@ -11,14 +11,17 @@
 //! - `reading` joins these: `read_dex`.
 #![tactic(auto)]
 
+mod bodies;
 mod classes;
 mod code_checks;
 mod fault;
 mod link_fault;
+mod members;
 mod methods;
 mod numbers;
 mod parts;
 mod reading;
+mod rows;
 mod seen;
 mod sums;
 #[cfg(test)]
