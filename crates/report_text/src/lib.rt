@@ -1,8 +1,17 @@
 //! The texts that the program writes.
 #![tactic(auto)]
 
+mod code_faults;
+mod dex_faults;
 mod heads;
+mod limits;
+mod link_faults;
+mod numbers;
 mod texts;
 
+pub use code_faults::bad_code;
+pub use dex_faults::bad_dex;
 pub use heads::heads_text;
+pub use limits::over_limit;
+pub use link_faults::bad_link;
 pub use texts::{accept, cannot_read, not_built, usage};
