@@ -4,10 +4,19 @@
 //! - `heads` has the heads of the reports: `heads_text`.
 #![tactic(auto)]
 
+mod code_faults;
+mod dex_faults;
 mod heads;
+mod limits;
+mod link_faults;
+mod numbers;
 mod texts;
 
+pub use code_faults::bad_code;
+pub use dex_faults::bad_dex;
 pub use heads::heads_text;
+pub use limits::over_limit;
+pub use link_faults::bad_link;
 pub use texts::{accept, cannot_read, not_built, usage};
 
 #[cfg(test)]

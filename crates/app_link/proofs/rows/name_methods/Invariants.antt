@@ -1,0 +1,6 @@
+use Rattle.std.proofs.Common.{◌≡◌, ◌≤◌, ◌+◌, ◌*◌, ◌++◌, ◌∷◌, [], length, map, take, drop, fold, slice_index}
+use Rattle.app_link.specs.Linked.{named}
+use Rattle.app_link.proofs.rows.name_methods.Given as goal
+
+abbrev pub invariant-loop-id : goal.invariant-loop-id
+invariant-loop-id l = l.methods.items ≡ map (named l.numbers) (take l.id-index l.ids)

@@ -1,0 +1,7 @@
+pub mod Content
+pub mod Exact
+pub mod Reading
+pub mod Numbers
+pub mod Linked
+pub mod LinkFaults
+pub mod Linking

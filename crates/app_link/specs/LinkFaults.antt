@@ -1,0 +1,140 @@
+-- Why files are no application, and which fault comes first.
+use Rattle.std.specs.Prelude.{ℕ, zero, suc, ◌≡◌, ◌<◌, ◌⊎◌, ◌+◌, ◌-◌, ◌==◌, ◌&&◌, true, false, nat_lt, nat_eq, not, List, [], ◌∷◌, ◌++◌, length, map, sum_by, position, bit_and, Bool, if◌then◌else◌, is_some, option_map, Option, Some, None, Contains, slice_get}
+use Rattle.ns_base.specs.Answers.{limit_of}
+use Rattle.ns_base.specs.declared.answers.Counted.{Counted}
+use Rattle.ns_base.specs.declared.answers.Counted.TheVariants.{Units, Locks, Sites}
+use Rattle.app_model.specs.declared.lock_use.LockUse.{LockUse}
+use Rattle.app_model.specs.declared.lock_use.LockUse.TheVariants.{Make}
+use Rattle.app_model.specs.Parts.{AppParts, ClassParts}
+use Rattle.app_model.specs.LockUse.{lock_use_at}
+use Rattle.app_model.specs.Words.{code_len}
+use Rattle.app_link.specs.declared.link_fault.LinkFault.{LinkFault}
+use Rattle.app_link.specs.declared.link_fault.LinkFault.TheVariants.{DuplicateClass, CodeMissing, CodeUnwanted, Limit}
+use Rattle.app_link.specs.declared.code_checks.CodeWrong.{CodeWrong}
+use Rattle.app_link.specs.declared.code_checks.CodeWrong.TheVariants.{Missing, Unwanted}
+use Rattle.app_link.specs.declared.parts.FileMethod.{FileMethod}
+use Rattle.app_link.specs.Content.{ClassContent, FileContent}
+use Rattle.app_link.specs.Linked.{linked}
+
+-- the first of two, where there is one
+infixr 5 ◌or◌
+abbrev pub ◌or◌ : {A : Type 0} → Option A → Option A → Option A
+(Some x) or other = Some x
+None or other = other
+
+-- the file and the row of a class of the application, by the numbers of classes of the files from one on
+pub record ClassPlace : Type 0 where
+  pub file : ℕ
+  pub row : ℕ
+
+abbrev pub place_from : ℕ → List ℕ → ℕ → ClassPlace
+place_from file [] class = record { file = file; row = class }
+place_from file (count ∷ more) class =
+    if nat_lt class count then record { file = file; row = class } else place_from (suc file) more (class - count)
+
+abbrev pub class_counts : List FileContent → List ℕ
+class_counts files = map (λ (file : FileContent). length file.classes) files
+
+abbrev pub class_place : List FileContent → ℕ → ClassPlace
+class_place files class = place_from 0 (class_counts files) class
+
+-- the types that the classes name themselves by
+abbrev pub class_names : List ClassParts → List ℕ
+class_names classes = map (λ (class : ClassParts). class.name.0) classes
+
+-- two classes of one name
+pub record Repeat : Type 0 where
+  pub class : ℕ
+  pub first : ℕ
+
+abbrev pub repeat_at : ℕ → Option ℕ → Option Repeat → Option Repeat
+repeat_at class (Some first) later = Some (record { class = class; first = first })
+repeat_at class None later = later
+
+-- the first class whose name one before it has, behind these
+abbrev pub repeat_from : List ℕ → List ℕ → Option Repeat
+repeat_from before [] = None
+repeat_from before (name ∷ more) = repeat_at (length before) (position (nat_eq name) before) (repeat_from (before ++ name ∷ []) more)
+
+abbrev pub duplicate_of : List ℕ → Option Repeat → Option LinkFault
+duplicate_of counts None = None
+duplicate_of counts (Some repeat) =
+    let again = place_from 0 counts repeat.class in
+    Some (DuplicateClass again.file again.row (place_from 0 counts repeat.first).file)
+
+abbrev pub duplicate_fault : List FileContent → Option LinkFault
+duplicate_fault files = duplicate_of (class_counts files) (repeat_from [] (class_names (linked files).classes))
+
+-- whether access flags have ABSTRACT or NATIVE
+abbrev pub is_bodiless : ℕ → Bool
+is_bodiless flags = not (bit_and flags 0x500 == 0)
+
+-- a method is neither abstract nor native and has no code, or is one of these and has code
+abbrev pub is_wrong : CodeWrong → FileMethod → Bool
+is_wrong Missing method = not (is_bodiless method.flags) && not (is_some method.code)
+is_wrong Unwanted method = is_bodiless method.flags && is_some method.code
+
+-- the id of the first such method of a list, of a class, of some classes, and its file
+abbrev pub wrong_in : CodeWrong → List FileMethod → Option ℕ
+wrong_in wrong [] = None
+wrong_in wrong (method ∷ more) = if is_wrong wrong method then Some method.id else wrong_in wrong more
+
+abbrev pub wrong_in_class : CodeWrong → ClassContent → Option ℕ
+wrong_in_class wrong class = wrong_in wrong class.directs or wrong_in wrong class.virtuals
+
+abbrev pub wrong_in_classes : CodeWrong → List ClassContent → Option ℕ
+wrong_in_classes wrong [] = None
+wrong_in_classes wrong (class ∷ more) = wrong_in_class wrong class or wrong_in_classes wrong more
+
+abbrev pub code_fault : CodeWrong → (file id : ℕ) → LinkFault
+code_fault Missing file id = CodeMissing file id
+code_fault Unwanted file id = CodeUnwanted file id
+
+-- in the files, by their numbers from one on
+abbrev pub code_fault_from : CodeWrong → ℕ → List FileContent → Option LinkFault
+code_fault_from wrong n [] = None
+code_fault_from wrong n (file ∷ more) = option_map (code_fault wrong n) (wrong_in_classes wrong file.classes) or code_fault_from wrong (suc n) more
+
+-- a class has this superclass, or interface
+abbrev pub IsParent : ClassParts → ℕ → Type 0
+IsParent class t = (class.parent ≡ Some (record { 0 = t })) ⊎ Contains class.interfaces (record { 0 = t })
+
+-- type u stands above type t: a class of that name has it as a parent, or has a parent that it stands above
+pub data IsAncestor (classes : List ClassParts) : ℕ → ℕ → Type 0 where
+  parent : {t u : ℕ} (class : ClassParts) → Contains classes class → class.name.0 ≡ t → IsParent class u → IsAncestor classes t u
+  further : {t u v : ℕ} (class : ClassParts) → Contains classes class → class.name.0 ≡ t → IsParent class u → IsAncestor classes u v → IsAncestor classes t v
+
+-- a class that is its own ancestor
+abbrev pub IsCyclic : List ClassParts → ClassParts → Type 0
+IsCyclic classes class = IsAncestor classes class.name.0 class.name.0
+
+-- none of the first n classes is
+abbrev pub IsAcyclicBelow : List ClassParts → ℕ → Type 0
+IsAcyclicBelow classes n = (c : ℕ) (class : ClassParts) → c < n → slice_get classes c ≡ Some class → ¬ IsCyclic classes class
+
+-- so many are more than the limit
+abbrev pub above : Counted → ℕ → Option LinkFault
+above which n = if nat_lt (limit_of which) n then Some (Limit which) else None
+
+abbrev pub is_make : LockUse → Bool
+is_make Make = true
+is_make other = false
+
+-- how many of the first n instructions of a method make a lock, and how many of those of the first n methods
+abbrev pub sites_in : AppParts → ℕ → ℕ → ℕ
+sites_in app m zero = 0
+sites_in app m (suc i) = sites_in app m i + (if is_make (lock_use_at app m i) then 1 else 0)
+
+abbrev pub sites_below : AppParts → ℕ → ℕ
+sites_below app zero = 0
+sites_below app (suc m) = sites_below app m + sites_in app m (code_len app m)
+
+-- code units of all files, wake-lock fields, calls that make a lock
+abbrev pub units_fault : List FileContent → Option LinkFault
+units_fault files = above Units (sum_by (λ (file : FileContent). file.units) files)
+
+abbrev pub locks_fault : AppParts → Option LinkFault
+locks_fault app = above Locks (length app.locks)
+
+abbrev pub sites_fault : AppParts → Option LinkFault
+sites_fault app = above Sites (sites_below app (length app.methods))

@@ -1,0 +1,65 @@
+-- What linking files answers.
+use Rattle.std.specs.Prelude.{ℕ, ◌≡◌, ◌≤◌, ◌+◌, List, length, sum_by, Option, Some, None, Result, Ok, Err, slice_get}
+use Rattle.std.specs.List.{All}
+use Rattle.ns_base.specs.Answers.{limit_of}
+use Rattle.ns_base.specs.declared.answers.Counted.TheVariants.{Members}
+use Rattle.app_model.specs.Parts.{AppParts, ClassParts}
+use Rattle.app_link.specs.declared.link_fault.LinkFault.{LinkFault}
+use Rattle.app_link.specs.declared.link_fault.LinkFault.TheVariants.{DuplicateClass, CodeMissing, CodeUnwanted, SuperCycle, Limit, Memory}
+use Rattle.app_link.specs.declared.code_checks.CodeWrong.TheVariants.{Missing, Unwanted}
+use Rattle.app_link.specs.Content.{ClassContent, FileContent}
+use Rattle.app_link.specs.Linked.{linked}
+use Rattle.app_link.specs.LinkFaults.{◌or◌, class_place, duplicate_fault, code_fault_from, IsCyclic, IsAcyclicBelow, units_fault, locks_fault, sites_fault}
+
+-- the fields and methods of the classes of a file
+abbrev pub members_of : ClassContent → ℕ
+members_of class = length class.statics + length class.instances + length class.directs + length class.virtuals
+
+abbrev pub member_count : FileContent → ℕ
+member_count file = sum_by members_of file.classes
+
+-- no table of a file is longer than its limit
+pub record IsSmall (file : FileContent) : Type 0 where
+  pub strings : length file.strings ≤ 8388608
+  pub types : length file.types ≤ 8388608
+  pub protos : length file.protos ≤ 8388608
+  pub fields : length file.fields ≤ 8388608
+  pub methods : length file.methods ≤ 8388608
+  pub classes : length file.classes ≤ 8388608
+  pub members : member_count file ≤ limit_of Members
+
+-- the files of an application
+pub record AreSmall (files : List FileContent) : Type 0 where
+  pub count : length files ≤ 16
+  pub each : All IsSmall files
+
+-- the faults that come before those of superclasses
+abbrev pub early_fault : List FileContent → Option LinkFault
+early_fault files = duplicate_fault files or (code_fault_from Missing 0 files or code_fault_from Unwanted 0 files)
+
+-- those that come after them
+abbrev pub late_fault : List FileContent → Option LinkFault
+late_fault files = units_fault files or (locks_fault (linked files) or sites_fault (linked files))
+
+-- no class is its own ancestor
+abbrev pub IsAcyclic : List FileContent → Type 0
+IsAcyclic files = IsAcyclicBelow (linked files).classes (length (linked files).classes)
+
+-- the first class that is its own ancestor has this file and row
+pub record IsFirstCycle (files : List FileContent) (file row : ℕ) : Type 0 where
+  pub number : ℕ
+  pub class : ClassParts
+  pub there : slice_get (linked files).classes number ≡ Some class
+  pub cyclic : IsCyclic (linked files).classes class
+  pub first : IsAcyclicBelow (linked files).classes number
+  pub place : class_place files number ≡ record { file = file; row = row }
+
+-- the application where there is no fault, or else the first fault; or memory ran out
+abbrev pub IsLinked : List FileContent → Result AppParts LinkFault → Type 0
+IsLinked files (Ok app) = (app ≡ linked files) × (early_fault files ≡ None) × IsAcyclic files × (late_fault files ≡ None)
+IsLinked files (Err (SuperCycle file row)) = (early_fault files ≡ None) × IsFirstCycle files file row
+IsLinked files (Err (Limit which)) = (early_fault files ≡ None) × IsAcyclic files × (late_fault files ≡ Some (Limit which))
+IsLinked files (Err (DuplicateClass file row earlier)) = early_fault files ≡ Some (DuplicateClass file row earlier)
+IsLinked files (Err (CodeMissing file method)) = early_fault files ≡ Some (CodeMissing file method)
+IsLinked files (Err (CodeUnwanted file method)) = early_fault files ≡ Some (CodeUnwanted file method)
+IsLinked files (Err Memory) = Unit {0}

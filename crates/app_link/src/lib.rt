@@ -1,0 +1,33 @@
+//! A whole DEX file, read once: its tables, its classes with their members, and the control flow of its
+//! methods.
+//!
+//! `specs/Content.antt` says what a file's content is, and `specs/Reading.antt` in which order it is
+//! read and which fault is the first.
+//!
+//! - `fault` says what can be wrong with a file.
+//! - `parts` has what is kept of a file.
+//! - `sums` counts what is limited over the whole file.
+//! - `methods` reads the code of methods, `classes` the class rows.
+//! - `reading` joins these: `read_dex`.
+#![tactic(auto)]
+
+mod bodies;
+mod classes;
+mod code_checks;
+mod fault;
+mod link_fault;
+mod members;
+mod methods;
+mod numbers;
+mod parts;
+mod reading;
+mod rows;
+mod seen;
+mod sums;
+#[cfg(test)]
+mod tests;
+
+pub use fault::FileFault;
+pub use link_fault::LinkFault;
+pub use parts::DexParts;
+pub use reading::read_dex;
