@@ -3,7 +3,7 @@
 -- soon as its code was read.
 -- Sums over the file: the members of a class are added once all of them were read. The units of a code item,
 -- and then its handlers, are added once it was read, before its graph is built.
-use Rattle.std.specs.Prelude.{ℕ, ◌+◌, ◌==◌, List, [], ◌∷◌, ◌++◌, length, map, take, drop, nat_lt, if◌then◌else◌, Option, Some, None, Result, Ok, Err}
+use Rattle.std.specs.Prelude.{ℕ, ◌+◌, ◌≡◌, ◌==◌, List, [], ◌∷◌, ◌++◌, length, map, take, drop, nat_lt, if◌then◌else◌, Option, Some, None, Result, Ok, Err}
 use Rattle.ns_base.specs.Answers.{limit_of}
 use Rattle.ns_base.specs.declared.answers.Counted.{Counted}
 use Rattle.ns_base.specs.declared.answers.Counted.TheVariants.{Members, Units, Handlers}
@@ -136,3 +136,7 @@ content_of bs = do
   tables ← in_dex (tables_at bs)
   read ← classes_at bs tables
   Ok (file_of bs tables read)
+
+-- some file has this content
+abbrev pub IsContent : FileContent → Type 0
+IsContent content = (bs : List ℕ) × (content_of bs ≡ Ok content)

@@ -9,7 +9,7 @@ ghost use Rattle.app_link.specs.Reading.{content_of, file_of, proto_of};
 
 use crate::classes::{Classes, copy_list, read_classes};
 use crate::fault::{FileFault, dex_fault_of};
-use crate::parts::{DexParts, FileProto};
+use crate::parts::{DexParts, FileParts, FileProto};
 use dex_bytes::{Header, header_from, read_header};
 use dex_tables::{ProtoId, Tables, read_tables, string_bytes};
 use std::alloc::{AllocError, Global};
@@ -88,13 +88,13 @@ fn copy_protos(alloc: Global, bytes: &[u8], tables: &Tables) -> Result<Vec<FileP
 }
 
 // What is kept, once all was read.
-fn keep(alloc: Global, bytes: &[u8], tables: Tables, read: Classes) -> Result<DexParts, AllocError>
+fn keep(alloc: Global, bytes: &[u8], tables: Tables, read: Classes) -> Result<FileParts, AllocError>
     requires { AreTablesOf bytes.now tables }
     ensures { IfOk result (λ parts. parts ≡ file_of bytes.now tables read) }
 {
     let strings = copy_texts(alloc, bytes, &tables)?;
     let protos = copy_protos(alloc, bytes, &tables)?;
-    Ok(DexParts {
+    Ok(FileParts {
         strings,
         types: tables.types,
         protos,
@@ -116,5 +116,6 @@ pub fn read_dex(alloc: Global, bytes: &[u8]) -> Result<DexParts, FileFault>
     let header = read_front(bytes)?;
     let tables = read_ids(alloc, bytes, &header)?;
     let read = read_classes(alloc, bytes, &tables)?;
-    Ok(keep(alloc, bytes, tables, read)?)
+    let parts = keep(alloc, bytes, tables, read)?;
+    Ok(DexParts { parts })
 }
