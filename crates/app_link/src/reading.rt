@@ -5,7 +5,8 @@ ghost use Rattle.dex_tables.specs.Content.{AreTablesOf};
 ghost use Rattle.dex_tables.specs.Reading.{list_below, tables_at};
 ghost use Rattle.dex_tables.specs.Rows.{string_count, string_text};
 ghost use Rattle.app_link.specs.Exact.{IsExact, in_dex};
-ghost use Rattle.app_link.specs.Reading.{content_of, file_of, proto_of};
+ghost use Rattle.app_link.specs.Content.{file_of, proto_of};
+ghost use Rattle.app_link.specs.Reading.{content_of};
 
 use crate::classes::{Classes, copy_list, read_classes};
 use crate::fault::{FileFault, dex_fault_of};
@@ -90,7 +91,7 @@ fn copy_protos(alloc: Global, bytes: &[u8], tables: &Tables) -> Result<Vec<FileP
 // What is kept, once all was read.
 fn keep(alloc: Global, bytes: &[u8], tables: Tables, read: Classes) -> Result<FileParts, AllocError>
     requires { AreTablesOf bytes.now tables }
-    ensures { IfOk result (λ parts. parts ≡ file_of bytes.now tables read) }
+    ensures { IfOk result (λ parts. parts ≡ file_of bytes.now tables read.classes read.sums.units) }
 {
     let strings = copy_texts(alloc, bytes, &tables)?;
     let protos = copy_protos(alloc, bytes, &tables)?;
