@@ -107,7 +107,7 @@ pub record IsMethodOf (bs : List ℕ) (member : Member) (method : FileMethod) : 
 
 -- each method is that of its member
 pub data AreMethodsOf (bs : List ℕ) : List Member → List FileMethod → Type 0 where
-  nothing : AreMethodsOf bs [] []
+  no_methods : AreMethodsOf bs [] []
   method : {member : Member} {own : FileMethod} {members : List Member} {methods : List FileMethod} → IsMethodOf bs member own → AreMethodsOf bs members methods → AreMethodsOf bs (member ∷ members) (own ∷ methods)
 
 -- this is the content of class row c, which has these members
@@ -119,7 +119,7 @@ pub record IsClassOf (bs lists : List ℕ) (c : ℕ) (row : ClassDef) (members :
 
 -- these are the contents of class rows, from row c on
 pub data AreClassesOf (bs lists : List ℕ) : ℕ → List ClassDef → List MemberLists → List ClassContent → Type 0 where
-  nothing : {c : ℕ} → AreClassesOf bs lists c [] [] []
+  no_classes : {c : ℕ} → AreClassesOf bs lists c [] [] []
   class : {c : ℕ} {row : ClassDef} {members : MemberLists} {content : ClassContent} {rows : List ClassDef} {more : List MemberLists} {contents : List ClassContent} → IsClassOf bs lists c row members content → AreClassesOf bs lists (suc c) rows more contents → AreClassesOf bs lists c (row ∷ rows) (members ∷ more) (content ∷ contents)
 
 -- how many members a class has

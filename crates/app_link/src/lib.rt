@@ -22,4 +22,4 @@ mod tests;
 
 pub use fault::FileFault;
 pub use parts::DexParts;
-pub use reading::read_dex;
+pub use reading::{content_law, read_dex};

@@ -1,11 +1,11 @@
 //! Reading a whole DEX file.
-ghost use Rattle.std.specs.Prelude.{◌≡◌, ◌+◌, ◌<◌, ◌≤◌, length, map, IfOk};
+ghost use Rattle.std.specs.Prelude.{◌≡◌, ℕ, ◌+◌, ◌<◌, ◌≤◌, ◌↔◌, List, length, map, IfOk, Ok};
 ghost use Rattle.dex_bytes.specs.Header.{header_at, header_of};
 ghost use Rattle.dex_tables.specs.Content.{AreTablesOf};
 ghost use Rattle.dex_tables.specs.Reading.{list_below, tables_at};
 ghost use Rattle.dex_tables.specs.Rows.{string_count, string_text};
 ghost use Rattle.app_link.specs.Exact.{IsExact, in_dex};
-ghost use Rattle.app_link.specs.Content.{file_of, proto_of};
+ghost use Rattle.app_link.specs.Content.{file_of, proto_of, FileContent, IsContentOf};
 ghost use Rattle.app_link.specs.Reading.{content_of};
 
 use crate::classes::{Classes, copy_list, read_classes};
@@ -112,7 +112,8 @@ fn keep(alloc: Global, bytes: &[u8], tables: Tables, read: Classes) -> Result<Fi
 #[tactic(auto, unfolding(crate::specs::Reading::content_of))]
 pub fn read_dex(alloc: Global, bytes: &[u8]) -> Result<DexParts, FileFault>
     requires { length bytes.now ≤ 4294967295 }
-    ensures { IsExact result (content_of bytes.now) }
+    ensures exact { IsExact result (content_of bytes.now) }
+    ensures content { IfOk result (λ parts. IsContentOf bytes.now parts) }
 {
     let header = read_front(bytes)?;
     let tables = read_ids(alloc, bytes, &header)?;
@@ -120,3 +121,9 @@ pub fn read_dex(alloc: Global, bytes: &[u8]) -> Result<DexParts, FileFault>
     let parts = keep(alloc, bytes, tables, read)?;
     Ok(DexParts { parts })
 }
+
+/// Reading in order gives exactly the content that stands in the file, where all of it is sound and
+/// within the limits.
+pub fn content_law()
+    ensures { (bs : List ℕ) (content : FileContent) → (content_of bs ≡ Ok content) ↔ IsContentOf bs content }
+{}
