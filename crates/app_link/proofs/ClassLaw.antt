@@ -1,18 +1,19 @@
 -- The class rows as they are read and as they stand in the file are the same.
-use Rattle.std.proofs.Common.{◌≡◌, ℕ, suc, ◌+◌, ◌≤◌, List, [], ◌∷◌, ◌++◌, length, Ok, refl, sym, ap, arith, ◌∙◌, append_assoc, append-nil, length-append}
+use Rattle.std.proofs.Common.{◌≡◌, ℕ, suc, ◌+◌, ◌≤◌, List, [], ◌∷◌, ◌++◌, length, Result, Ok, refl, sym, ap, arith, ◌∙◌, append_assoc, append-nil, length-append}
 use Rattle.std.specs.List.{sum_by}
 use Rattle.ns_base.specs.Answers.{limit_of}
 use Rattle.ns_base.specs.declared.answers.Counted.TheVariants.{Members, Units, Handlers}
 use Rattle.dex_tables.specs.declared.tables.ClassDef.{ClassDef}
-use Rattle.dex_code.specs.Content.{MemberLists}
+use Rattle.dex_code.specs.Content.{MemberLists, AreMembersOf}
 use Rattle.dex_code.specs.Reading.{members_at}
 use Rattle.dex_code.proofs.MembersLaw.{members_read, members_reads}
+use Rattle.app_link.specs.declared.fault.FileFault.{FileFault}
 use Rattle.app_link.specs.declared.sums.Sums.{Sums}
 use Rattle.app_link.specs.Content.{ClassContent, class_of, IsClassOf, AreClassesOf, no_classes, class, member_count, unit_count, handler_count, over_methods}
-use Rattle.app_link.specs.Exact.{reached, in_dex}
-use Rattle.app_link.specs.Reading.{added, with_members, methods_at, ReadClasses, with_class}
+use Rattle.app_link.specs.Exact.{◌>>=◌, reached, in_dex}
+use Rattle.app_link.specs.Reading.{added, with_members, ReadMethods, methods_at, ReadClasses, with_class}
 use Rattle.app_link.proofs.Chains.{bind_ok, bind_by, ok_same, in_dex_ok, added_ok, added_by, sum_by-more}
-use Rattle.app_link.proofs.MethodLaw.{AreMore, more_more, methods_read, grown, methods_by}
+use Rattle.app_link.proofs.MethodLaw.{AreMore, AreMethodsRead, more_more, methods_read, grown, methods_by}
 
 -- the sums with so many members, units and handlers more, within the limits
 pub record AreAllMore (before now : Sums) (m u h : ℕ) : Type 0 where
@@ -73,28 +74,54 @@ pub record IsClassRead (bs lists : List ℕ) (x : ReadClasses) (row : ClassDef) 
   pub classes : y.classes ≡ x.classes ++ own ∷ []
   pub sums : AreAllMore x.sums y.sums (member_count lists_of) (over_methods (unit_count bs) lists_of) (over_methods (handler_count bs) lists_of)
 
-class_read : (bs lists : List ℕ) (x : ReadClasses) (row : ClassDef) (y : ReadClasses) → with_class bs lists x row ≡ Ok y → IsClassRead bs lists x row y
-unfolding with_class
-class_read bs lists x row y h =
-    let members = bind_ok (in_dex (members_at bs (length x.classes))) _ y h in
-    let sums = bind_ok (with_members x.sums members.0) _ y members.2 in
-    let directs = bind_ok (methods_at bs sums.0 members.0.directs) _ y sums.2 in
-    let virtuals = bind_ok (methods_at bs directs.0.sums members.0.virtuals) _ y directs.2 in
-    let is = ok_same _ _ virtuals.2 in
-    let d = methods_read bs members.0.directs (record { sums = sums.0; methods = [] }) directs.0 directs.1 in
-    let v = methods_read bs members.0.virtuals (record { sums = directs.0.sums; methods = [] }) virtuals.0 virtuals.1 in
+-- what follows each part of a class row
+after_virtuals : List ℕ → ReadClasses → ClassDef → MemberLists → ReadMethods → ReadMethods → Result ReadClasses FileFault
+after_virtuals lists x row members directs virtuals = Ok (record {
+  sums = virtuals.sums;
+  classes = x.classes ++ class_of lists row members directs.methods virtuals.methods ∷ [];
+})
+
+after_directs : (bs lists : List ℕ) → ReadClasses → ClassDef → MemberLists → ReadMethods → Result ReadClasses FileFault
+after_directs bs lists x row members directs = methods_at bs directs.sums members.virtuals >>= after_virtuals lists x row members directs
+
+after_sums : (bs lists : List ℕ) → ReadClasses → ClassDef → MemberLists → Sums → Result ReadClasses FileFault
+after_sums bs lists x row members sums = methods_at bs sums members.directs >>= after_directs bs lists x row members
+
+after_members : (bs lists : List ℕ) → ReadClasses → ClassDef → MemberLists → Result ReadClasses FileFault
+after_members bs lists x row members = with_members x.sums members >>= after_sums bs lists x row members
+
+class_made : (bs lists : List ℕ) (x : ReadClasses) (row : ClassDef) (y : ReadClasses) (members : MemberLists) (sums : Sums) (directs virtuals : ReadMethods)
+    → AreMembersOf bs (length x.classes) members
+    → with_members x.sums members ≡ Ok sums
+    → AreMethodsRead bs (record { sums = sums; methods = [] }) members.directs directs
+    → AreMethodsRead bs (record { sums = directs.sums; methods = [] }) members.virtuals virtuals
+    → ◌≡◌ {A = ReadClasses} (record { sums = virtuals.sums; classes = x.classes ++ class_of lists row members directs.methods virtuals.methods ∷ [] }) y
+    → IsClassRead bs lists x row y
+class_made bs lists x row y members sums directs virtuals stand counted d v is =
     rw (← is) (record {
-      lists_of = members.0;
-      own = class_of lists row members.0 directs.0.methods virtuals.0.methods;
-      is = record {
-        stand = members_read bs (length x.classes) members.0 (in_dex_ok _ _ members.1);
-        fields = refl;
-        directs = rw d.methods d.are;
-        virtuals = rw v.methods v.are;
-      };
+      lists_of = members;
+      own = class_of lists row members directs.methods virtuals.methods;
+      is = record { stand = stand; fields = refl; directs = rw d.methods d.are; virtuals = rw v.methods v.are };
       classes = refl;
-      sums = members_more x.sums sums.0 virtuals.0.sums members.0 _ _ sums.1 (more_more _ _ _ _ _ _ _ d.sums v.sums);
+      sums = members_more x.sums sums virtuals.sums members _ _ counted (more_more _ _ _ _ _ _ _ d.sums v.sums);
     })
+
+class_read : (bs lists : List ℕ) (x : ReadClasses) (row : ClassDef) (y : ReadClasses) → with_class bs lists x row ≡ Ok y → IsClassRead bs lists x row y
+unfolding with_class after_members after_sums after_directs after_virtuals
+class_read bs lists x row y h =
+    let members = bind_ok (in_dex (members_at bs (length x.classes))) (after_members bs lists x row) y h in
+    let sums = bind_ok (with_members x.sums members.0) (after_sums bs lists x row members.0) y members.2 in
+    let directs = bind_ok (methods_at bs sums.0 members.0.directs) (after_directs bs lists x row members.0) y sums.2 in
+    let virtuals = bind_ok (methods_at bs directs.0.sums members.0.virtuals) (after_virtuals lists x row members.0 directs.0) y directs.2 in
+    class_made bs lists x row y members.0 sums.0 directs.0 virtuals.0
+    (members_read bs (length x.classes) members.0 (in_dex_ok (members_at bs (length x.classes)) members.0 members.1))
+    sums.1
+    (methods_read bs members.0.directs (record { sums = sums.0; methods = [] }) directs.0 directs.1)
+    (methods_read bs members.0.virtuals (record { sums = directs.0.sums; methods = [] }) virtuals.0 virtuals.1)
+    (ok_same (record {
+      sums = virtuals.0.sums;
+      classes = x.classes ++ class_of lists row members.0 directs.0.methods virtuals.0.methods ∷ [];
+    }) y virtuals.2)
 
 -- class rows that were read
 pub record AreClassesRead (bs lists : List ℕ) (x : ReadClasses) (rows : List ClassDef) (y : ReadClasses) : Type 0 where

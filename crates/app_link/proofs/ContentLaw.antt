@@ -8,8 +8,9 @@ use Rattle.dex_bytes.proofs.Faults.{header_read, passing_header}
 use Rattle.dex_tables.specs.Content.{IdTables, AreTablesOf}
 use Rattle.dex_tables.specs.Reading.{tables_at}
 use Rattle.dex_tables.proofs.TableLaws.{reading_is, is_reading}
+use Rattle.app_link.specs.declared.fault.FileFault.{FileFault}
 use Rattle.app_link.specs.Content.{ClassContent, FileContent, file_of, unit_count, over_methods, IsContentOf}
-use Rattle.app_link.specs.Exact.{in_dex}
+use Rattle.app_link.specs.Exact.{◌>>=◌, in_dex}
 use Rattle.app_link.specs.Reading.{no_sums, classes_at, ReadClasses, content_of}
 use Rattle.app_link.proofs.Chains.{bind_ok, ok_same, in_dex_ok}
 use Rattle.app_link.proofs.ClassLaw.{AreClassesRead, classes_read, all_grown, classes_by}
@@ -38,15 +39,25 @@ made bs content tables read header stand all is =
       handler_limit = within _ _ _ all.sums.handlers all.sums.handler_limit;
     })
 
+-- what follows each part of a file
+after_classes : List ℕ → IdTables → ReadClasses → Result FileContent FileFault
+after_classes bs tables read = Ok (file_of bs tables read.classes read.sums.units)
+
+after_tables : List ℕ → IdTables → Result FileContent FileFault
+after_tables bs tables = classes_at bs tables >>= after_classes bs tables
+
+after_header : List ℕ → Header → Result FileContent FileFault
+after_header bs header = in_dex (tables_at bs) >>= after_tables bs
+
 pub content_read : (bs : List ℕ) (content : FileContent) → content_of bs ≡ Ok content → IsContentOf bs content
-unfolding content_of
+unfolding content_of after_header after_tables after_classes
 content_read bs content h =
-    let header = bind_ok (in_dex (header_at bs)) _ content h in
-    let tables = bind_ok (in_dex (tables_at bs)) _ content header.2 in
-    let read = bind_ok (classes_at bs tables.0) _ content tables.2 in
-    let front = in_dex_ok _ _ header.1 in
-    made bs content tables.0 read.0 (header_read bs (rw front refl)) (reading_is bs tables.0 (front_whole bs header.0 front) (in_dex_ok _ _ tables.1))
-    (classes_read bs tables.0.lists tables.0.classes _ read.0 read.1) (ok_same _ _ read.2)
+    let header = bind_ok (in_dex (header_at bs)) (after_header bs) content h in
+    let tables = bind_ok (in_dex (tables_at bs)) (after_tables bs) content header.2 in
+    let read = bind_ok (classes_at bs tables.0) (after_classes bs tables.0) content tables.2 in
+    let front = in_dex_ok (header_at bs) header.0 header.1 in
+    made bs content tables.0 read.0 (header_read bs (rw front refl)) (reading_is bs tables.0 (front_whole bs header.0 front) (in_dex_ok (tables_at bs) tables.0 tables.1))
+    (classes_read bs tables.0.lists tables.0.classes (record { sums = no_sums; classes = [] }) read.0 read.1) (ok_same (file_of bs tables.0 read.0.classes read.0.sums.units) content read.2)
 
 header_some : (r : Result Header DexFault) → IsOk r → (x : Header) × (r ≡ Ok x)
 header_some (Ok x) h = (x, refl)

@@ -1,5 +1,5 @@
 -- The methods of a class as they are read and as they stand in the file are the same.
-use Rattle.std.proofs.Common.{◌≡◌, ◌≢◌, ℕ, ◌+◌, ◌≤◌, inl, inr, List, [], ◌∷◌, ◌++◌, length, Option, Some, None, Ok, refl, sym, ap, arith, ◌∙◌, append_assoc, append-nil}
+use Rattle.std.proofs.Common.{◌≡◌, ◌≢◌, ℕ, ◌+◌, ◌≤◌, inl, inr, List, [], ◌∷◌, ◌++◌, length, Option, Some, None, Result, Ok, refl, sym, ap, arith, ◌∙◌, append_assoc, append-nil}
 use Rattle.std.specs.List.{sum_by}
 use Rattle.std.proofs.lemmas.Bool.{cases_eq, eq-eqb, ne_eqb}
 use Rattle.ns_base.specs.Answers.{limit_of}
@@ -13,11 +13,12 @@ use Rattle.dex_code.proofs.CodeLaw.{code_read}
 use Rattle.dex_code.proofs.CodeReads.{code_reads}
 use Rattle.app_model.specs.Body.{BodyRows}
 use Rattle.method_graph.specs.Graph.{graph_of}
+use Rattle.app_link.specs.declared.fault.FileFault.{FileFault}
 use Rattle.app_link.specs.declared.parts.FileCode.{FileCode}
 use Rattle.app_link.specs.declared.parts.FileMethod.{FileMethod}
 use Rattle.app_link.specs.declared.sums.Sums.{Sums}
 use Rattle.app_link.specs.Content.{method_of, IsOwnCode, IsMethodOf, AreMethodsOf, no_methods, method, unit_count, handler_count}
-use Rattle.app_link.specs.Exact.{reached, in_dex, in_code}
+use Rattle.app_link.specs.Exact.{◌>>=◌, reached, in_dex, in_code}
 use Rattle.app_link.specs.Reading.{added, with_code, ReadMethods, with_row, with_method}
 use Rattle.app_link.proofs.Chains.{bind_ok, bind_by, ok_same, in_dex_ok, in_code_ok, added_ok, added_by, sum_by-more}
 
@@ -101,17 +102,29 @@ some_read bs x member y item sums body some read counted graph is =
       sums = rw test (same_more _ _ _ _ _ _ (units_of bs member.code item stands) (handlers_of bs member.code item stands) (code_more x.sums sums item counted));
     })
 
+-- what follows each part of a method
+after_graph : ReadMethods → Member → CodeContent → Sums → BodyRows → Result ReadMethods FileFault
+after_graph x member item sums body = Ok (with_row x member sums (Some (record { ins = item.ins; body = body })))
+
+after_sums : List ℕ → ReadMethods → Member → CodeContent → Sums → Result ReadMethods FileFault
+after_sums bs x member item sums = in_code member.id (graph_of bs member.id member.flags item) >>= after_graph x member item sums
+
+after_item : List ℕ → ReadMethods → Member → CodeContent → Result ReadMethods FileFault
+after_item bs x member item = with_code x.sums item >>= after_sums bs x member item
+
 method_read : (bs : List ℕ) (x : ReadMethods) (member : Member) (y : ReadMethods) → with_method bs x member ≡ Ok y → IsMethodRead bs x member y
-unfolding with_method
+unfolding with_method after_item after_sums after_graph
 method_read bs x member y h =
     elim (cases_eq member.code 0) [
-      | inl none ↦ none_read bs x member y none (ok_same _ _ (rw (eq-eqb member.code 0 none) at h))
+      | inl none ↦ none_read bs x member y none (ok_same (with_row x member x.sums None) y (rw (eq-eqb member.code 0 none) at h))
       | inr some ↦
           let chain = rw (ne_eqb member.code 0 some) at h in
-          let item = bind_ok (in_dex (code_at bs member.code)) _ y chain in
-          let sums = bind_ok (with_code x.sums item.0) _ y item.2 in
-          let body = bind_ok (in_code member.id (graph_of bs member.id member.flags item.0)) _ y sums.2 in
-          some_read bs x member y item.0 sums.0 body.0 some (in_dex_ok _ _ item.1) sums.1 (in_code_ok member.id _ _ body.1) (ok_same _ _ body.2)
+          let item = bind_ok (in_dex (code_at bs member.code)) (after_item bs x member) y chain in
+          let sums = bind_ok (with_code x.sums item.0) (after_sums bs x member item.0) y item.2 in
+          let body = bind_ok (in_code member.id (graph_of bs member.id member.flags item.0)) (after_graph x member item.0 sums.0) y sums.2 in
+          some_read bs x member y item.0 sums.0 body.0 some (in_dex_ok (code_at bs member.code) item.0 item.1) sums.1
+          (in_code_ok member.id (graph_of bs member.id member.flags item.0) body.0 body.1)
+          (ok_same (with_row x member sums.0 (Some (record { ins = item.0.ins; body = body.0 }))) y body.2)
     ]
 
 -- methods that were read

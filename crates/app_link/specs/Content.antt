@@ -22,7 +22,7 @@ use Rattle.app_link.specs.declared.parts.FileCode.{FileCode}
 use Rattle.app_link.specs.declared.parts.FileField.{FileField}
 use Rattle.app_link.specs.declared.parts.FileMethod.{FileMethod}
 
--- a prototype: a string, the type of the result, and the types of the parameters
+-- a prototype: the string of its shorty, the type of the result, and the types of the parameters
 pub record ProtoContent : Type 0 where
   pub shorty : ℕ
   pub result : ℕ
@@ -89,7 +89,7 @@ file_of bs tables classes units = record {
   units = units;
 }
 
--- this is the code of a member: none where its offset is 0, else that of the code item there
+-- this is the code that stands at a member's offset, with its control flow
 pub record IsBodyAt (bs : List ℕ) (member : Member) (own : FileCode) : Type 0 where
   pub item : CodeContent
   pub offset : member.code ≢ 0
@@ -97,15 +97,17 @@ pub record IsBodyAt (bs : List ℕ) (member : Member) (own : FileCode) : Type 0 
   pub ins : own.ins ≡ item.ins
   pub graph : graph_of bs member.id member.flags item ≡ Ok own.body
 
+-- this is the code of a member: none where its offset is 0
 abbrev pub IsOwnCode : List ℕ → Member → Option FileCode → Type 0
 IsOwnCode bs member None = member.code ≡ 0
 IsOwnCode bs member (Some own) = IsBodyAt bs member own
 
+-- this is the method that a member of a class is
 pub record IsMethodOf (bs : List ℕ) (member : Member) (method : FileMethod) : Type 0 where
   pub row : method ≡ method_of member method.code
   pub own : IsOwnCode bs member method.code
 
--- each method is that of its member
+-- each is the method of its member
 pub data AreMethodsOf (bs : List ℕ) : List Member → List FileMethod → Type 0 where
   no_methods : AreMethodsOf bs [] []
   method : {member : Member} {own : FileMethod} {members : List Member} {methods : List FileMethod} → IsMethodOf bs member own → AreMethodsOf bs members methods → AreMethodsOf bs (member ∷ members) (own ∷ methods)
@@ -126,10 +128,11 @@ pub data AreClassesOf (bs lists : List ℕ) : ℕ → List ClassDef → List Mem
 abbrev pub member_count : MemberLists → ℕ
 member_count members = length members.statics + length members.instances + length members.directs + length members.virtuals
 
--- how many code units a method has, and how many handlers
+-- how many code units a method has
 abbrev pub unit_count : List ℕ → Member → ℕ
 unit_count bs member = if member.code == 0 then 0 else code_len bs member.code
 
+-- how many handlers its tries have
 abbrev pub handler_count : List ℕ → Member → ℕ
 handler_count bs member = if member.code == 0 then 0 else handlers_before bs member.code (code_tries bs member.code)
 
