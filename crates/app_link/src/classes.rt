@@ -5,7 +5,8 @@ ghost use Rattle.dex_tables.specs.Rows.{class_count};
 ghost use Rattle.dex_code.specs.Content.{AreMembersOf};
 ghost use Rattle.dex_code.specs.Reading.{members_at};
 ghost use Rattle.app_link.specs.Exact.{IsExact, Gives, in_dex};
-ghost use Rattle.app_link.specs.Reading.{class_of, classes_at, field_of, list_in, with_class};
+ghost use Rattle.app_link.specs.Content.{class_of, field_of, list_in};
+ghost use Rattle.app_link.specs.Reading.{classes_at, with_class};
 
 use crate::fault::{FileFault, dex_fault_of};
 use crate::methods::read_methods;

@@ -3,7 +3,7 @@ ghost use Rattle.std.specs.Prelude.{◌≡◌, ◌≤◌, length};
 ghost use Rattle.app_link.specs.LinkFaults.{is_bodiless, is_wrong, wrong_in, wrong_in_class, wrong_in_classes, code_fault, code_fault_from};
 
 use crate::link_fault::LinkFault;
-use crate::parts::{DexParts, FileClass, FileMethod};
+use crate::parts::{FileParts, FileClass, FileMethod};
 
 /// What can be wrong with the code of a method.
 #[derive(Clone, Copy)]
@@ -72,7 +72,7 @@ fn code_fault(wrong: CodeWrong, file: u32, id: u32) -> LinkFault
 }
 
 /// The first method of which this is wrong, by file, class row, and directs before virtuals.
-pub fn find_code_fault(wrong: CodeWrong, files: &[DexParts]) -> Option<LinkFault>
+pub fn find_code_fault(wrong: CodeWrong, files: &[FileParts]) -> Option<LinkFault>
     requires { length files.now ≤ 16 }
     ensures { result ≡ code_fault_from wrong 0 files.now }
 {

@@ -30,4 +30,4 @@ mod tests;
 pub use fault::FileFault;
 pub use link_fault::LinkFault;
 pub use parts::DexParts;
-pub use reading::read_dex;
+pub use reading::{content_law, read_dex};

@@ -5,7 +5,7 @@ ghost use Rattle.app_link.specs.Linking.{AreSmall};
 
 use crate::bodies::{find_operands, link_body};
 use crate::numbers::SeenLists;
-use crate::parts::{DexParts, FileClass, FileField, FileMethod};
+use crate::parts::{FileParts, FileClass, FileField, FileMethod};
 use crate::rows::{FileRows, find_rows};
 use app_model::{Body, ClassRow, FieldRow, MethodRow, Operand};
 use std::alloc::{AllocError, Global};

@@ -3,7 +3,7 @@ ghost use Rattle.std.specs.Prelude.{◌≡◌, ◌≤◌, ◌+◌, ◌*◌, leng
 ghost use Rattle.app_link.specs.Numbers.{string_at, with_new, type_texts, types_in, names_in, type_numbers, proto_numbers, protos_of, protos_in, number_in, seen_in, numbers_of};
 ghost use Rattle.app_link.specs.Linking.{AreSmall};
 
-use crate::parts::{DexParts, FileProto};
+use crate::parts::{FileParts, FileProto};
 use crate::seen::{Protos, Texts};
 use std::alloc::{AllocError, Global};
 use std::marker::Model;
@@ -50,7 +50,7 @@ pub fn number_at(numbers: &[u32], row: u32) -> u32
     }
 }
 
-fn string_at(file: &DexParts, string: u32) -> &[u8]
+fn string_at(file: &FileParts, string: u32) -> &[u8]
     ensures { result.now ≡ string_at file.now string }
 {
     match file.strings.get(string as usize) {
@@ -59,7 +59,7 @@ fn string_at(file: &DexParts, string: u32) -> &[u8]
     }
 }
 
-fn see_types(alloc: Global, types: &mut Texts, file: &DexParts) -> Result<(), AllocError>
+fn see_types(alloc: Global, types: &mut Texts, file: &FileParts) -> Result<(), AllocError>
     ensures texts { IfOk result (λ _. types.new ≡ with_new types.old (type_texts file.now)) }
     ensures len { IfOk result (λ _. length types.new ≤ length types.old + length file.now.types) }
 {
@@ -79,7 +79,7 @@ fn see_names(alloc: Global, names: &mut Texts, strings: &[Vec<u8>]) -> Result<()
     Ok(())
 }
 
-fn see_all_types(alloc: Global, files: &[DexParts]) -> Result<Texts, AllocError>
+fn see_all_types(alloc: Global, files: &[FileParts]) -> Result<Texts, AllocError>
     requires { AreSmall files.now }
     ensures texts { IfOk result (λ types. types ≡ types_in files.now) }
     ensures len { IfOk result (λ types. length types ≤ 134217728) }
@@ -91,7 +91,7 @@ fn see_all_types(alloc: Global, files: &[DexParts]) -> Result<Texts, AllocError>
     Ok(types)
 }
 
-fn see_all_names(alloc: Global, files: &[DexParts]) -> Result<Texts, AllocError>
+fn see_all_names(alloc: Global, files: &[FileParts]) -> Result<Texts, AllocError>
     requires { AreSmall files.now }
     ensures texts { IfOk result (λ names. names ≡ names_in files.now) }
     ensures len { IfOk result (λ names. length names ≤ 134217728) }
@@ -104,7 +104,7 @@ fn see_all_names(alloc: Global, files: &[DexParts]) -> Result<Texts, AllocError>
     Ok(names)
 }
 
-fn number_types(alloc: Global, types: &Texts, file: &DexParts) -> Result<Vec<u32>, AllocError>
+fn number_types(alloc: Global, types: &Texts, file: &FileParts) -> Result<Vec<u32>, AllocError>
     requires { length types.now ≤ 134217728 }
     ensures { IfOk result (λ numbers. numbers.items ≡ type_numbers types.now file.now) }
 {
@@ -141,7 +141,7 @@ fn see_protos(
     alloc: Global,
     protos: &mut Protos,
     types: &[u32],
-    file: &DexParts,
+    file: &FileParts,
 ) -> Result<(), AllocError>
     ensures protos { IfOk result (λ _. protos.new ≡ with_new protos.old (map (proto_numbers types.now) file.now.protos)) }
     ensures len { IfOk result (λ _. length protos.new ≤ length protos.old + length file.now.protos) }
@@ -156,7 +156,7 @@ fn see_file_protos(
     alloc: Global,
     protos: &mut Protos,
     types: &Texts,
-    file: &DexParts,
+    file: &FileParts,
 ) -> Result<(), AllocError>
     requires { length types.now ≤ 134217728 }
     ensures protos { IfOk result (λ _. protos.new ≡ with_new protos.old (protos_of types.now file.now)) }
@@ -166,7 +166,7 @@ fn see_file_protos(
     see_protos(alloc, protos, &numbers, file)
 }
 
-fn see_all_protos(alloc: Global, types: &Texts, files: &[DexParts]) -> Result<Protos, AllocError>
+fn see_all_protos(alloc: Global, types: &Texts, files: &[FileParts]) -> Result<Protos, AllocError>
     requires small { AreSmall files.now }
     requires types { length types.now ≤ 134217728 }
     ensures protos { IfOk result (λ protos. protos ≡ protos_in types.now files.now) }
@@ -183,7 +183,7 @@ fn number_protos(
     alloc: Global,
     protos: &Protos,
     types: &[u32],
-    file: &DexParts,
+    file: &FileParts,
 ) -> Result<Vec<u32>, AllocError>
     requires { length protos.now ≤ 134217728 }
     ensures { IfOk result (λ numbers. numbers.items ≡ map (number_in protos.now) (map (proto_numbers types.now) file.now.protos)) }
@@ -198,7 +198,7 @@ fn number_protos(
 
 /// All types, names and prototypes of the files.
 #[tactic(auto, unfolding(crate::specs::Numbers::seen_in))]
-pub fn see(alloc: Global, files: &[DexParts]) -> Result<SeenLists, AllocError>
+pub fn see(alloc: Global, files: &[FileParts]) -> Result<SeenLists, AllocError>
     requires { AreSmall files.now }
     ensures lists { IfOk result (λ seen. seen ≡ seen_in files.now) }
     ensures types { IfOk result (λ seen. length seen.types ≤ 134217728) }
@@ -219,7 +219,7 @@ pub fn see(alloc: Global, files: &[DexParts]) -> Result<SeenLists, AllocError>
 pub fn number_file(
     alloc: Global,
     seen: &SeenLists,
-    file: &DexParts,
+    file: &FileParts,
 ) -> Result<FileNumbers, AllocError>
     requires types { length seen.now.types ≤ 134217728 }
     requires names { length seen.now.names ≤ 134217728 }

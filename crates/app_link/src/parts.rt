@@ -72,19 +72,19 @@ impl Model for FileClass {
     } };
 }
 
-/// The content of a DEX file. Its texts and bodies are its own: the file's bytes may go.
+/// All that is kept of a file.
 #[derive(Drop)]
-pub struct DexParts {
-    pub(crate) strings: Vec<Vec<u8>>,
-    pub(crate) types: Vec<u32>,
-    pub(crate) protos: Vec<FileProto>,
-    pub(crate) fields: Vec<FieldId>,
-    pub(crate) methods: Vec<MethodId>,
-    pub(crate) classes: Vec<FileClass>,
-    pub(crate) units: u64,
+pub struct FileParts {
+    pub strings: Vec<Vec<u8>>,
+    pub types: Vec<u32>,
+    pub protos: Vec<FileProto>,
+    pub fields: Vec<FieldId>,
+    pub methods: Vec<MethodId>,
+    pub classes: Vec<FileClass>,
+    pub units: u64,
 }
 
-impl Model for DexParts {
+impl Model for FileParts {
     ghost use Rattle.std.specs.Prelude.{map};
     ghost use Rattle.app_link.specs.Content.{FileContent};
 
@@ -99,4 +99,21 @@ impl Model for DexParts {
       classes = f.classes.items;
       units = f.units;
     } };
+}
+
+/// The content of a DEX file. Its texts and bodies are its own: the file's bytes may go.
+#[derive(Drop)]
+pub struct DexParts {
+    pub(crate) parts: FileParts,
+}
+
+impl Model for DexParts {
+    ghost use Rattle.app_link.specs.Content.{FileContent};
+    ghost use Rattle.app_link.specs.Reading.{IsContent};
+
+    ghost Value = { FileContent };
+
+    ghost view = { λ d. d.parts };
+
+    ghost invariant = { λ d. IsContent d.parts };
 }

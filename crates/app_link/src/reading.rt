@@ -1,15 +1,16 @@
 //! Reading a whole DEX file.
-ghost use Rattle.std.specs.Prelude.{◌≡◌, ◌+◌, ◌<◌, ◌≤◌, length, map, IfOk};
+ghost use Rattle.std.specs.Prelude.{◌≡◌, ℕ, ◌+◌, ◌<◌, ◌≤◌, ◌↔◌, List, length, map, IfOk, Ok};
 ghost use Rattle.dex_bytes.specs.Header.{header_at, header_of};
 ghost use Rattle.dex_tables.specs.Content.{AreTablesOf};
 ghost use Rattle.dex_tables.specs.Reading.{list_below, tables_at};
 ghost use Rattle.dex_tables.specs.Rows.{string_count, string_text};
 ghost use Rattle.app_link.specs.Exact.{IsExact, in_dex};
-ghost use Rattle.app_link.specs.Reading.{content_of, file_of, proto_of};
+ghost use Rattle.app_link.specs.Content.{file_of, proto_of, FileContent, IsContentOf};
+ghost use Rattle.app_link.specs.Reading.{content_of};
 
 use crate::classes::{Classes, copy_list, read_classes};
 use crate::fault::{FileFault, dex_fault_of};
-use crate::parts::{DexParts, FileProto};
+use crate::parts::{DexParts, FileParts, FileProto};
 use dex_bytes::{Header, header_from, read_header};
 use dex_tables::{ProtoId, Tables, read_tables, string_bytes};
 use std::alloc::{AllocError, Global};
@@ -88,13 +89,13 @@ fn copy_protos(alloc: Global, bytes: &[u8], tables: &Tables) -> Result<Vec<FileP
 }
 
 // What is kept, once all was read.
-fn keep(alloc: Global, bytes: &[u8], tables: Tables, read: Classes) -> Result<DexParts, AllocError>
+fn keep(alloc: Global, bytes: &[u8], tables: Tables, read: Classes) -> Result<FileParts, AllocError>
     requires { AreTablesOf bytes.now tables }
-    ensures { IfOk result (λ parts. parts ≡ file_of bytes.now tables read) }
+    ensures { IfOk result (λ parts. parts ≡ file_of bytes.now tables read.classes read.sums.units) }
 {
     let strings = copy_texts(alloc, bytes, &tables)?;
     let protos = copy_protos(alloc, bytes, &tables)?;
-    Ok(DexParts {
+    Ok(FileParts {
         strings,
         types: tables.types,
         protos,
@@ -111,10 +112,18 @@ fn keep(alloc: Global, bytes: &[u8], tables: Tables, read: Classes) -> Result<De
 #[tactic(auto, unfolding(crate::specs::Reading::content_of))]
 pub fn read_dex(alloc: Global, bytes: &[u8]) -> Result<DexParts, FileFault>
     requires { length bytes.now ≤ 4294967295 }
-    ensures { IsExact result (content_of bytes.now) }
+    ensures exact { IsExact result (content_of bytes.now) }
+    ensures content { IfOk result (λ parts. IsContentOf bytes.now parts) }
 {
     let header = read_front(bytes)?;
     let tables = read_ids(alloc, bytes, &header)?;
     let read = read_classes(alloc, bytes, &tables)?;
-    Ok(keep(alloc, bytes, tables, read)?)
+    let parts = keep(alloc, bytes, tables, read)?;
+    Ok(DexParts { parts })
 }
+
+/// Reading in order gives exactly the content that stands in the file, where all of it is sound and
+/// within the limits.
+pub fn content_law()
+    ensures { (bs : List ℕ) (content : FileContent) → (content_of bs ≡ Ok content) ↔ IsContentOf bs content }
+{}

@@ -3,7 +3,7 @@ ghost use Rattle.std.specs.Prelude.{◌≡◌, ◌≤◌, length, map, option_ma
 ghost use Rattle.app_link.specs.Linked.{type_at, method_at, field_at, named, named_field, rows_of, class_row, field_row, method_row, registers_of, ins_of};
 
 use crate::numbers::{FileNumbers, SeenLists, number_at, number_file};
-use crate::parts::{DexParts, FileClass, FileCode, FileField, FileMethod};
+use crate::parts::{FileParts, FileClass, FileCode, FileField, FileMethod};
 use app_model::{ClassRow, FieldRow, MethodRow, Named, NamedField};
 use dex_tables::{FieldId, MethodId};
 use ns_base::{ClassNo, NameNo, ProtoNo, TypeNo};
@@ -76,7 +76,7 @@ fn name_fields(
 
 /// The rows of a file.
 #[tactic(auto, unfolding(crate::specs::Linked::rows_of))]
-pub fn find_rows(alloc: Global, seen: &SeenLists, file: &DexParts) -> Result<FileRows, AllocError>
+pub fn find_rows(alloc: Global, seen: &SeenLists, file: &FileParts) -> Result<FileRows, AllocError>
     requires types { length seen.now.types ≤ 134217728 }
     requires names { length seen.now.names ≤ 134217728 }
     requires protos { length seen.now.protos ≤ 134217728 }

@@ -1,5 +1,6 @@
 //! What is limited over a whole file.
-ghost use Rattle.std.specs.Prelude.{◌<◌, ◌^◌, ◌≡◌, ◌+◌, length};
+ghost use Rattle.std.specs.Prelude.{◌<◌, ◌^◌, ◌≡◌};
+ghost use Rattle.app_link.specs.Content.{member_count};
 ghost use Rattle.app_link.specs.Exact.{IsExact};
 ghost use Rattle.app_link.specs.Reading.{added, no_sums, with_members, with_code};
 
@@ -28,8 +29,8 @@ fn add(which: Counted, before: u64, more: u128) -> Result<u64, FileFault>
     Ok(sum as u64)
 }
 
-fn member_count(members: &ClassMembers) -> u128
-    ensures value { result ≡ length members.now.statics + length members.now.instances + length members.now.directs + length members.now.virtuals }
+fn count_members(members: &ClassMembers) -> u128
+    ensures value { result ≡ member_count members.now }
     ensures few { result < 2 ^ 127 }
 {
     members.statics.len() as u128
@@ -55,7 +56,7 @@ impl Sums {
     pub fn add_members(self, members: &ClassMembers) -> Result<Sums, FileFault>
         ensures { IsExact result (with_members self members.now) }
     {
-        let count = add(Counted::Members, self.members, member_count(members))?;
+        let count = add(Counted::Members, self.members, count_members(members))?;
         Ok(Sums {
             members: count,
             ..self

@@ -1,8 +1,10 @@
 //! A small file of the class `Lapp/R;`, with a static lock and the methods `<init>` and `onReceive`. Its
 //! two sums were computed by other programs, as were those of the same file with some bytes put elsewhere.
+use crate::parts::FileParts;
 use crate::{DexParts, FileFault, read_dex};
 use dalvik_decode::CodeFault;
 use dex_bytes::DexFault;
+use dex_tables::{FieldId, MethodId};
 use std::alloc::{AllocError, Global};
 use std::test::Fail;
 
@@ -94,12 +96,19 @@ fn file_with(alloc: Global, sums: &[u8; 24], puts: &[(usize, u8)]) -> Result<Vec
     Ok(file)
 }
 
-fn read(alloc: Global, sums: &[u8; 24], puts: &[(usize, u8)]) -> Result<DexParts, FileFault> {
+const PROTOS: [(u32, u32, &[u16]); 2] = [(6, 3, &[4, 5]), (3, 3, &[])];
+
+const fn method(class: u16, proto: u16, name: u32) -> MethodId {
+    MethodId { class, proto, name }
+}
+
+fn read(alloc: Global, sums: &[u8; 24], puts: &[(usize, u8)]) -> Result<FileParts, FileFault> {
     let file = file_with(alloc, sums, puts)?;
     if file.len() > 0xffff_ffff {
         return Err(FileFault::Memory);
     }
-    read_dex(alloc, &file)
+    let DexParts { parts } = read_dex(alloc, &file)?;
+    Ok(parts)
 }
 
 #[test]
@@ -112,11 +121,19 @@ fn the_tables_are_read_back(rt: HostRuntime) -> Result<(), Fail> {
         assert_eq!(rt; string.as_slice(), text.as_bytes());
     }
     assert_eq!(rt; parts.types.as_slice(), [0, 1, 2, 3, 7, 8].as_slice());
-    assert_eq!(rt; parts.protos.len(), 2);
-    assert_eq!(rt; parts.protos[0].params.as_slice(), [4, 5].as_slice());
-    assert!(rt; parts.protos[1].params.is_empty());
-    assert_eq!(rt; (parts.fields[0].class, parts.fields[0].kind), (0, 2));
-    assert_eq!(rt; (parts.methods[1].name, parts.methods.len()), (5, 3));
+    assert_eq!(rt; parts.protos.len(), PROTOS.len());
+    for (proto, (shorty, result, params)) in parts.protos.iter().zip(PROTOS) {
+        assert_eq!(rt; (proto.shorty, proto.result), (shorty, result));
+        assert_eq!(rt; proto.params.as_slice(), params);
+    }
+    let field = FieldId {
+        class: 0,
+        kind: 2,
+        name: 4,
+    };
+    assert_eq!(rt; parts.fields.as_slice(), [field].as_slice());
+    let methods = [method(0, 1, 9), method(0, 0, 5), method(1, 1, 9)];
+    assert_eq!(rt; parts.methods.as_slice(), methods.as_slice());
     assert_eq!(rt; parts.units, 2);
     Ok(())
 }

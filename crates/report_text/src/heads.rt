@@ -1,9 +1,10 @@
 //! The heads of the reports.
-ghost use Rattle.std.specs.Prelude.{◌≡◌, ◌<◌, ◌+◌, ◌++◌, length, slice_get, slice_index_or, decimal, codes, IfOk, []};
+ghost use Rattle.std.specs.Prelude.{◌≡◌, ◌<◌, ◌+◌, ◌++◌, length, slice_get, slice_index_or, codes, IfOk, []};
 ghost use Rattle.app_model.specs.Components.{callbacks_of};
 ghost use Rattle.report_text.specs.Heads as spec;
 ghost use Rattle.report_text.specs.Heads.{callback_text, field_text, head_text, heads_before, lock_text, member_text, no_violation, status_name};
 
+use crate::numbers::push_decimal;
 use crate::texts::push_shown;
 use app_model::{App, ComponentRow, FieldRow, Kind};
 use flow_model::Violation;
@@ -49,14 +50,6 @@ fn push_head(
     text.extend_from_slice(b" after ")?;
     push_callback(text, app, list, violation.component, violation.callback)?;
     text.push(b'\n')?;
-    Ok(())
-}
-
-fn push_decimal(alloc: Global, text: &mut Vec<u8>, number: usize) -> Result<(), AllocError>
-    ensures { IfOk result (λ _. text.new.items ≡ text.old.items ++ decimal number) }
-{
-    let digits = number.to_string(alloc)?;
-    text.extend_from_slice(digits.as_bytes())?;
     Ok(())
 }
 

@@ -1,5 +1,5 @@
 use Rattle.std.proofs.Common.{◌≡◌, map, take}
-use Rattle.app_link.specs.Reading.{field_of}
+use Rattle.app_link.specs.Content.{field_of}
 use Rattle.app_link.proofs.classes.fields_of.Given as goal
 
 abbrev pub invariant-loop-member : goal.invariant-loop-member

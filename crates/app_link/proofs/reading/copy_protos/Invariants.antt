@@ -1,5 +1,5 @@
 use Rattle.std.proofs.Common.{◌≡◌, map, take}
-use Rattle.app_link.specs.Reading.{proto_of}
+use Rattle.app_link.specs.Content.{proto_of}
 use Rattle.app_link.proofs.reading.copy_protos.Given as goal
 
 abbrev pub invariant-loop-p : goal.invariant-loop-p
