@@ -3,7 +3,7 @@ ghost use Rattle.std.specs.Prelude.{◌≡◌, ◌≤◌, length};
 ghost use Rattle.app_link.specs.LinkFaults.{is_bodiless, is_wrong, wrong_in, wrong_in_class, wrong_in_classes, code_fault, code_fault_from};
 
 use crate::link_fault::LinkFault;
-use crate::parts::{FileParts, FileClass, FileMethod};
+use crate::parts::{FileClass, FileMethod, FileParts};
 
 /// What can be wrong with the code of a method.
 #[derive(Clone, Copy)]

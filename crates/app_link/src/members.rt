@@ -5,7 +5,7 @@ ghost use Rattle.app_link.specs.Linking.{AreSmall};
 
 use crate::bodies::{find_operands, link_body};
 use crate::numbers::SeenLists;
-use crate::parts::{FileParts, FileClass, FileField, FileMethod};
+use crate::parts::{FileClass, FileField, FileMethod, FileParts};
 use crate::rows::{FileRows, find_rows};
 use app_model::{Body, ClassRow, FieldRow, MethodRow, Operand};
 use std::alloc::{AllocError, Global};
@@ -58,7 +58,12 @@ impl ClassMembers {
         self.classes.len() as u32
     }
 
-    fn push_field(&mut self, rows: &FileRows, class: u32, field: FileField) -> Result<(), AllocError>
+    fn push_field(
+        &mut self,
+        rows: &FileRows,
+        class: u32,
+        field: FileField,
+    ) -> Result<(), AllocError>
         ensures { IfOk result (λ _. self.new ≡ with_field rows.now class self.old field) }
     {
         self.fields.push(rows.field_row(class, field))?;

@@ -3,7 +3,7 @@ ghost use Rattle.std.specs.Prelude.{◌≡◌, ◌≤◌, length, map, option_ma
 ghost use Rattle.app_link.specs.Linked.{type_at, method_at, field_at, named, named_field, rows_of, class_row, field_row, method_row, registers_of, ins_of};
 
 use crate::numbers::{FileNumbers, SeenLists, number_at, number_file};
-use crate::parts::{FileParts, FileClass, FileCode, FileField, FileMethod};
+use crate::parts::{FileClass, FileCode, FileField, FileMethod, FileParts};
 use app_model::{ClassRow, FieldRow, MethodRow, Named, NamedField};
 use dex_tables::{FieldId, MethodId};
 use ns_base::{ClassNo, NameNo, ProtoNo, TypeNo};

@@ -11,7 +11,6 @@ mod decoding;
 mod faults;
 pub mod ident;
 mod instructions;
-
 mod operands;
 mod payloads;
 mod table;

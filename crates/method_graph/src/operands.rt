@@ -4,8 +4,7 @@ ghost use Rattle.dex_tables.specs.Content.{AreTablesOf};
 ghost use Rattle.dex_tables.specs.Rows.{list_size, list_entry, method_count, method_proto, proto_count, proto_params, type_count, type_name};
 ghost use Rattle.method_graph.specs.Operands.{AreSums, args_len, argument_words, has_its_args, is_static_call, named_of, param_type, param_words, params_words, past_table, unless_below, words_of};
 
-use app_model::{Args, Ins};
-use app_model::opcode;
+use app_model::{Args, Ins, opcode};
 use dex_tables::{Tables, string_bytes};
 use std::alloc::AllocError;
 use std::collections::BTreeMap;

@@ -4,8 +4,7 @@ ghost use Rattle.std.specs.List.{range_with_len};
 ghost use Rattle.app_model.specs.Registers.{args_of, is_between, is_wide_binary, is_wide_const, is_wide_move, is_wide_unary, pair_if, registers_of};
 ghost use Rattle.method_graph.specs.Registers.{first_past};
 
-use app_model::{Args, Ins};
-use app_model::opcode;
+use app_model::{Args, Ins, opcode};
 
 /// Whether the opcode is one of a run.
 fn is_in(first: u8, last: u8, op: u8) -> bool
