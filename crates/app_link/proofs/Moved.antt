@@ -1,5 +1,5 @@
 -- A body stays one where the types of its instructions get other numbers.
-use Rattle.std.proofs.Common.{◌≡◌, ◌<◌, ◌≤◌, ◌^◌, ℕ, suc, List, [], ◌∷◌, length, map, AllPairs, All, refl, sym, subst, ap, arith}
+use Rattle.std.proofs.Common.{◌≡◌, ◌<◌, ◌^◌, ℕ, suc, List, [], ◌∷◌, length, map, AllPairs, All, refl, sym, subst, arith}
 use Rattle.std.proofs.lemmas.List.{length-map}
 use Rattle.std.proofs.lemmas.List.Elements.{All-map}
 use Rattle.std.proofs.lemmas.List.Kept.{AllPairs-cons}
@@ -98,8 +98,8 @@ rising-linked : (rows : Rows) (places : List Place) → AllPairs (λ (a b : Plac
 rising-linked rows [] h = λ i j d lt below. absurd (omega arith)
 rising-linked rows (p ∷ ps) h =
     AllPairs-cons (λ (a b : Place). a.pc < b.pc) (linked_place rows p) (map (linked_place rows) ps)
-      (All-map (λ (q : Place). p.pc < q.pc) (linked_place rows) ps (λ k d lt. h 0 (suc k) d (omega arith) (omega arith)))
-      (rising-linked rows ps (λ i j d lt below. h (suc i) (suc j) d (omega arith) (omega arith)))
+    (All-map (λ (q : Place). p.pc < q.pc) (linked_place rows) ps (λ k d lt. h 0 (suc k) d (omega arith) (omega arith)))
+    (rising-linked rows ps (λ i j d lt below. h (suc i) (suc j) d (omega arith) (omega arith)))
 
 each-linked : (rows : Rows) (registers count : ℕ) (places : List Place) → All (λ place. IsSoundPlace registers count place) places
     → All (λ place. IsSoundPlace registers count place) (map (linked_place rows) places)

@@ -9,4 +9,4 @@ loop-place-preserved c =
     let f = linked_place c.args.rows.now in
     let all = c.deref_mut-place-items.result.now in
     subst (λ p. set at.place-items at.place-index p ≡ map f (take (at.place-index + 1) all) ++ drop (at.place-index + 1) all) (sym c.link_place.ensures)
-      (map_over_more f all at.place-items at.place-index _ (omega (arith, c.loop-place-test.true)) at.invariant (ap (get_or at.place-items at.place-index) c.place-item.is))
+    (map_over_more f all at.place-items at.place-index _ (omega (arith, c.loop-place-test.true)) at.invariant (ap (get_or at.place-items at.place-index) c.place-item.is))
