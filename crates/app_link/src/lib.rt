@@ -19,6 +19,8 @@ mod cycles;
 mod fault;
 mod limits;
 mod link_fault;
+#[cfg(test)]
+mod link_tests;
 mod linking;
 mod making;
 mod members;
