@@ -5,3 +5,6 @@ pub mod Distinct
 pub mod Fronts
 pub mod MethodLaw
 pub mod Moved
+pub mod Sizes
+pub mod Ancestry
+pub mod FirstFault

@@ -12,14 +12,22 @@
 #![tactic(auto)]
 
 mod bodies;
+mod class_checks;
 mod classes;
 mod code_checks;
+mod cycles;
 mod fault;
+mod limits;
 mod link_fault;
+#[cfg(test)]
+mod link_tests;
+mod linking;
+mod making;
 mod members;
 mod methods;
 mod numbers;
 mod parts;
+mod ranks;
 mod reading;
 mod rows;
 mod seen;
@@ -29,5 +37,6 @@ mod tests;
 
 pub use fault::FileFault;
 pub use link_fault::LinkFault;
+pub use linking::link;
 pub use parts::DexParts;
 pub use reading::{content_law, read_dex};
