@@ -4,7 +4,7 @@ ghost use Rattle.app_link.specs.LinkFaults.{class_counts, class_names, place_fro
 ghost use Rattle.app_link.specs.Linking.{AreSmall};
 
 use crate::link_fault::LinkFault;
-use crate::parts::DexParts;
+use crate::parts::FileParts;
 use app_model::ClassRow;
 use indexmap::IndexSet;
 use std::alloc::{AllocError, Global};
@@ -24,7 +24,7 @@ pub struct Repeat {
 }
 
 /// How many classes each file has.
-pub fn count_classes(alloc: Global, files: &[DexParts]) -> Result<Vec<u32>, AllocError>
+pub fn count_classes(alloc: Global, files: &[FileParts]) -> Result<Vec<u32>, AllocError>
     requires { AreSmall files.now }
     ensures { IfOk result (λ counts. counts.items ≡ class_counts files.now) }
 {

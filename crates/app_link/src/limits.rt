@@ -4,7 +4,7 @@ ghost use Rattle.app_model.specs.Words.{code_len};
 ghost use Rattle.app_link.specs.LinkFaults.{above, is_make, sites_in, sites_below, units_fault, sites_fault};
 
 use crate::link_fault::LinkFault;
-use crate::parts::DexParts;
+use crate::parts::FileParts;
 use app_model::{App, LockUse};
 use ns_base::{Counted, MethodNo, limit};
 
@@ -20,7 +20,7 @@ pub fn above(which: Counted, count: u128) -> Option<LinkFault>
 }
 
 /// The fault of too many code units.
-pub fn find_units_fault(files: &[DexParts]) -> Option<LinkFault>
+pub fn find_units_fault(files: &[FileParts]) -> Option<LinkFault>
     requires { length files.now ≤ 16 }
     ensures { result ≡ units_fault files.now }
 {

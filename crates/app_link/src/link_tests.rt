@@ -2,9 +2,10 @@
 ghost use Rattle.std.specs.Prelude.{◌≡◌, ◌≤◌, ◌^◌, sum_by, IsTrue};
 ghost use Rattle.app_link.specs.Linking.{AreSmall, IsSmall, members_of};
 
-use crate::parts::{DexParts, FileClass, FileCode, FileField, FileMethod, FileProto};
+use crate::LinkFault;
+use crate::linking::link_parts;
+use crate::parts::{FileClass, FileCode, FileField, FileMethod, FileParts, FileProto};
 use crate::ranks::rank_types;
-use crate::{LinkFault, link};
 use app_model::{App, Body, ClassRow};
 use dex_tables::{FieldId, MethodId};
 use ns_base::{ClassNo, Counted, MethodNo, TypeNo};
@@ -107,14 +108,14 @@ fn types_of(alloc: Global, texts: &[&str]) -> Result<Vec<u32>, AllocError> {
     Ok(list)
 }
 
-fn file_of(alloc: Global, file: &FileForm) -> Result<DexParts, AllocError> {
+fn file_of(alloc: Global, file: &FileForm) -> Result<FileParts, AllocError> {
     let mut protos = Vec::new(alloc);
     protos.push(FileProto {
         shorty: 0,
         result: 0,
         params: Vec::new(alloc),
     })?;
-    Ok(DexParts {
+    Ok(FileParts {
         strings: texts_of(alloc, file.texts)?,
         types: types_of(alloc, file.texts)?,
         protos,
@@ -133,7 +134,7 @@ fn file_of(alloc: Global, file: &FileForm) -> Result<DexParts, AllocError> {
     })
 }
 
-fn files_of(alloc: Global, forms: &[FileForm]) -> Result<Vec<DexParts>, AllocError> {
+fn files_of(alloc: Global, forms: &[FileForm]) -> Result<Vec<FileParts>, AllocError> {
     let mut files = Vec::new(alloc);
     for form in forms {
         files.push(file_of(alloc, form)?)?;
@@ -161,7 +162,7 @@ fn count_members(classes: &[FileClass]) -> u128
     count
 }
 
-fn is_small(file: &DexParts) -> bool
+fn is_small(file: &FileParts) -> bool
     ensures { IsTrue result → IsSmall file.now }
 {
     let tables = file.strings.len() <= 8_388_608
@@ -173,7 +174,7 @@ fn is_small(file: &DexParts) -> bool
     tables && count_members(&file.classes) <= 1_048_576
 }
 
-fn are_small(files: &[DexParts]) -> bool
+fn are_small(files: &[FileParts]) -> bool
     ensures { IsTrue result → AreSmall files.now }
 {
     if files.len() > 16 {
@@ -192,7 +193,7 @@ fn link_forms(alloc: Global, forms: &[FileForm]) -> Result<App, LinkFault> {
     if !are_small(&files) {
         return Err(LinkFault::Memory);
     }
-    link(alloc, files)
+    link_parts(alloc, files)
 }
 
 // Files, and their first fault.

@@ -11,13 +11,13 @@ use crate::cycles::find_cycle;
 use crate::limits::{above, find_sites_fault, find_units_fault};
 use crate::link_fault::LinkFault;
 use crate::making::make_rows;
-use crate::parts::DexParts;
+use crate::parts::{DexParts, FileParts};
 use app_model::{App, AppRows, ClassRow};
 use ns_base::Counted;
 use std::alloc::{AllocError, Global};
 
 // The first fault of a method's code.
-fn code_fault(files: &[DexParts]) -> Option<LinkFault>
+fn code_fault(files: &[FileParts]) -> Option<LinkFault>
     requires { length files.now ≤ 16 }
     ensures { result ≡ (code_fault_from Missing 0 files.now or code_fault_from Unwanted 0 files.now) }
 {
@@ -63,10 +63,20 @@ fn finish(rows: AppRows, units: Option<LinkFault>) -> Result<App, LinkFault>
     }
 }
 
-/// The application of these files, or their first fault: two classes of one name; code that is
-/// missing, then code that is unwanted; a class that is its own ancestor; then the limits of code
-/// units, wake-lock fields and calls that make a lock. Each by file and row.
-pub fn link(alloc: Global, files: Vec<DexParts>) -> Result<App, LinkFault>
+// The contents of the files.
+fn take_parts(alloc: Global, files: Vec<DexParts>) -> Result<Vec<FileParts>, AllocError>
+    ensures { IfOk result (λ parts. parts.items ≡ files.items) }
+{
+    let mut taken = Vec::with_capacity(alloc, files.len())?;
+    for file in files {
+        let DexParts { parts } = file;
+        taken.push(parts)?;
+    }
+    Ok(taken)
+}
+
+/// The application of these contents, as `link` says.
+pub fn link_parts(alloc: Global, files: Vec<FileParts>) -> Result<App, LinkFault>
     requires { AreSmall files.items }
     ensures { IsLinked files.items result }
 {
@@ -82,4 +92,15 @@ pub fn link(alloc: Global, files: Vec<DexParts>) -> Result<App, LinkFault>
         return Err(LinkFault::SuperCycle(place.file, place.row));
     }
     finish(rows, units)
+}
+
+/// The application of these files, or their first fault: two classes of one name; code that is
+/// missing, then code that is unwanted; a class that is its own ancestor; then the limits of code
+/// units, wake-lock fields and calls that make a lock. Each by file and row.
+pub fn link(alloc: Global, files: Vec<DexParts>) -> Result<App, LinkFault>
+    requires { AreSmall files.items }
+    ensures { IsLinked files.items result }
+{
+    let parts = take_parts(alloc, files)?;
+    link_parts(alloc, parts)
 }

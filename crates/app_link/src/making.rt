@@ -7,7 +7,7 @@ ghost use Rattle.app_link.specs.Linking.{AreSmall};
 
 use crate::members::{ClassMembers, collect_members};
 use crate::numbers::{SeenLists, see};
-use crate::parts::DexParts;
+use crate::parts::FileParts;
 use app_model::{AppRows, FieldRow, ProtoRow, WAKE_LOCK};
 use ns_base::{FieldNo, TypeNo};
 use std::alloc::{AllocError, Global};
@@ -96,7 +96,7 @@ fn join_rows(alloc: Global, seen: SeenLists, members: ClassMembers) -> Result<Ap
 
 /// The rows of the application of these files. Bodies are moved.
 #[tactic(auto, unfolding(crate::specs::Linked::linked))]
-pub fn make_rows(alloc: Global, files: Vec<DexParts>) -> Result<AppRows, AllocError>
+pub fn make_rows(alloc: Global, files: Vec<FileParts>) -> Result<AppRows, AllocError>
     requires { AreSmall files.items }
     ensures rows { IfOk result (λ rows. rows ≡ linked files.items) }
     ensures app { IfOk result (λ rows. length rows.locks ≤ 64 → IsApp rows) }

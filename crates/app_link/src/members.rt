@@ -173,7 +173,7 @@ impl ClassMembers {
         &mut self,
         alloc: Global,
         seen: &SeenLists,
-        file: DexParts,
+        file: FileParts,
     ) -> Result<(), AllocError>
         requires types { length seen.now.types ≤ 134217728 }
         requires names { length seen.now.names ≤ 134217728 }
@@ -192,7 +192,7 @@ impl ClassMembers {
 pub fn collect_members(
     alloc: Global,
     seen: &SeenLists,
-    files: Vec<DexParts>,
+    files: Vec<FileParts>,
 ) -> Result<ClassMembers, AllocError>
     requires small { AreSmall files.items }
     requires types { length seen.now.types ≤ 134217728 }

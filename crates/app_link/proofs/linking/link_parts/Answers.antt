@@ -1,6 +1,6 @@
 use Rattle.std.proofs.Common.{rules}
 use Rattle.app_link.proofs.FirstFault.{early_linked, finished}
-use Rattle.app_link.proofs.linking.link.Goals as goal
+use Rattle.app_link.proofs.linking.link_parts.Goals as goal
 
 pub returns-in-Some : goal.returns-in-Some
 returns-in-Some c = early_linked c.args.files.items c.in-Some.fault (search rules)
