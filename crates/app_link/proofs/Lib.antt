@@ -6,5 +6,6 @@ pub mod Fronts
 pub mod MethodLaw
 pub mod Moved
 pub mod Sizes
+pub mod Small
 pub mod Ancestry
 pub mod FirstFault

@@ -39,4 +39,4 @@ pub use fault::FileFault;
 pub use link_fault::LinkFault;
 pub use linking::link;
 pub use parts::DexParts;
-pub use reading::{content_law, read_dex};
+pub use reading::{content_law, read_dex, small_law};
