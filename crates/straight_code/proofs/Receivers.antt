@@ -6,7 +6,7 @@ use Rattle.app_model.specs.Parts.{AppParts, ClassParts}
 use Rattle.app_model.specs.declared.rows.MethodRow.{MethodRow}
 use Rattle.ns_base.specs.declared.rows.TypeNo.{TypeNo}
 use Rattle.app_model.specs.Names.{type_text, name_text, is_proto}
-use Rattle.flow_model.proofs.Tests.{both, same_number, none_some}
+use Rattle.flow_model.proofs.TestLaws.{both, same_number, none_some}
 use Rattle.straight_code.specs.Receiver.{is_receiver, is_receiver_class, is_callback, is_static_field, has_one_each, has_other_parent}
 use Rattle.straight_code.specs.Verdict.{IsSmallApp}
 
