@@ -5,3 +5,7 @@ pub mod Distinct
 pub mod Fronts
 pub mod MethodLaw
 pub mod Moved
+pub mod Sizes
+pub mod Small
+pub mod Ancestry
+pub mod FirstFault

@@ -5,3 +5,4 @@ pub mod Numbers
 pub mod Linked
 pub mod LinkFaults
 pub mod Linking
+pub mod Cycles

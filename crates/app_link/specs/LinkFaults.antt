@@ -10,6 +10,8 @@ use Rattle.app_model.specs.LockUse.{lock_use_at}
 use Rattle.app_model.specs.Words.{code_len}
 use Rattle.app_link.specs.declared.link_fault.LinkFault.{LinkFault}
 use Rattle.app_link.specs.declared.link_fault.LinkFault.TheVariants.{DuplicateClass, CodeMissing, CodeUnwanted, Limit}
+use Rattle.app_link.specs.declared.class_checks.ClassPlace.{ClassPlace}
+use Rattle.app_link.specs.declared.class_checks.Repeat.{Repeat}
 use Rattle.app_link.specs.declared.code_checks.CodeWrong.{CodeWrong}
 use Rattle.app_link.specs.declared.code_checks.CodeWrong.TheVariants.{Missing, Unwanted}
 use Rattle.app_link.specs.declared.parts.FileMethod.{FileMethod}
@@ -23,10 +25,6 @@ abbrev pub ◌or◌ : {A : Type 0} → Option A → Option A → Option A
 None or other = other
 
 -- the file and the row of a class of the application, by the numbers of classes of the files from one on
-pub record ClassPlace : Type 0 where
-  pub file : ℕ
-  pub row : ℕ
-
 abbrev pub place_from : ℕ → List ℕ → ℕ → ClassPlace
 place_from file [] class = record { file = file; row = class }
 place_from file (count ∷ more) class =
@@ -41,11 +39,6 @@ class_place files class = place_from 0 (class_counts files) class
 -- the types that the classes name themselves by
 abbrev pub class_names : List ClassParts → List ℕ
 class_names classes = map (λ (class : ClassParts). class.name.0) classes
-
--- two classes of one name
-pub record Repeat : Type 0 where
-  pub class : ℕ
-  pub first : ℕ
 
 abbrev pub repeat_at : ℕ → Option ℕ → Option Repeat → Option Repeat
 repeat_at class (Some first) later = Some (record { class = class; first = first })
@@ -101,7 +94,7 @@ IsParent class t = (class.parent ≡ Some (record { 0 = t })) ⊎ Contains class
 
 -- type u stands above type t: a class of that name has it as a parent, or has a parent that it stands above
 pub data IsAncestor (classes : List ClassParts) : ℕ → ℕ → Type 0 where
-  parent : {t u : ℕ} (class : ClassParts) → Contains classes class → class.name.0 ≡ t → IsParent class u → IsAncestor classes t u
+  its_parent : {t u : ℕ} (class : ClassParts) → Contains classes class → class.name.0 ≡ t → IsParent class u → IsAncestor classes t u
   further : {t u v : ℕ} (class : ClassParts) → Contains classes class → class.name.0 ≡ t → IsParent class u → IsAncestor classes u v → IsAncestor classes t v
 
 -- a class that is its own ancestor

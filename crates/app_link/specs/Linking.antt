@@ -41,6 +41,11 @@ early_fault files = duplicate_fault files or (code_fault_from Missing 0 files or
 abbrev pub late_fault : List FileContent → Option LinkFault
 late_fault files = units_fault files or (locks_fault (linked files) or sites_fault (linked files))
 
+-- rows that are an application, with no fault of this kind
+abbrev pub IsFinished : Option LinkFault → AppParts → Result AppParts LinkFault → Type 0
+IsFinished units rows (Ok app) = (app ≡ rows) × ((units or (locks_fault rows or sites_fault rows)) ≡ None)
+IsFinished units rows (Err fault) = (units or (locks_fault rows or sites_fault rows)) ≡ Some fault
+
 -- no class is its own ancestor
 abbrev pub IsAcyclic : List FileContent → Type 0
 IsAcyclic files = IsAcyclicBelow (linked files).classes (length (linked files).classes)

@@ -76,7 +76,8 @@ impl ClassMembers {
         class: u32,
         fields: &[FileField],
     ) -> Result<(), AllocError>
-        ensures { IfOk result (λ _. self.new ≡ with_fields rows.now class self.old fields.now) }
+        ensures fields { IfOk result (λ _. self.new ≡ with_fields rows.now class self.old fields.now) }
+        ensures classes { IfOk result (λ _. self.new.classes ≡ self.old.classes) }
     {
         for k in 0..fields.len() {
             self.push_field(rows, class, fields[k])?;
@@ -90,7 +91,8 @@ impl ClassMembers {
         rows: &FileRows,
         class: &FileClass,
     ) -> Result<(), AllocError>
-        ensures { IfOk result (λ _. self.new ≡ with_name rows.now class.now self.old) }
+        ensures name { IfOk result (λ _. self.new ≡ with_name rows.now class.now self.old) }
+        ensures count { IfOk result (λ _. length self.new.classes ≡ length self.old.classes + 1) }
     {
         self.classes.push(rows.class_row(alloc, class)?)?;
         Ok(())
@@ -119,11 +121,88 @@ impl ClassMembers {
         class: u32,
         methods: Vec<FileMethod>,
     ) -> Result<(), AllocError>
-        ensures { IfOk result (λ _. self.new ≡ with_methods rows.now class self.old methods.items) }
+        ensures methods { IfOk result (λ _. self.new ≡ with_methods rows.now class self.old methods.items) }
+        ensures classes { IfOk result (λ _. self.new.classes ≡ self.old.classes) }
     {
         for method in methods {
             self.push_method(alloc, rows, class, method)?;
         }
         Ok(())
     }
+
+    // A class, and its fields and methods.
+    #[tactic(auto, unfolding(crate::specs::Linked::with_class))]
+    fn push_class(
+        &mut self,
+        alloc: Global,
+        rows: &FileRows,
+        class: FileClass,
+    ) -> Result<(), AllocError>
+        requires { length self.old.classes < 2 ^ 32 }
+        ensures members { IfOk result (λ _. self.new ≡ with_class rows.now self.old class) }
+        ensures count { IfOk result (λ _. length self.new.classes ≡ length self.old.classes + 1) }
+    {
+        let number = self.count();
+        self.push_name(alloc, rows, &class)?;
+        self.push_fields(rows, number, &class.statics)?;
+        self.push_fields(rows, number, &class.instances)?;
+        self.push_methods(alloc, rows, number, class.directs)?;
+        self.push_methods(alloc, rows, number, class.virtuals)?;
+        Ok(())
+    }
+
+    fn push_classes(
+        &mut self,
+        alloc: Global,
+        rows: &FileRows,
+        classes: Vec<FileClass>,
+    ) -> Result<(), AllocError>
+        requires { length self.old.classes + length classes.items ≤ 2 ^ 32 }
+        ensures members { IfOk result (λ _. self.new ≡ fold (with_class rows.now) self.old classes.items) }
+        ensures count { IfOk result (λ _. length self.new.classes ≡ length self.old.classes + length classes.items) }
+    {
+        for class in classes {
+            self.push_class(alloc, rows, class)?;
+        }
+        Ok(())
+    }
+
+    // All classes of a file.
+    #[tactic(auto, unfolding(crate::specs::Linked::with_file))]
+    fn push_file(
+        &mut self,
+        alloc: Global,
+        seen: &SeenLists,
+        file: FileParts,
+    ) -> Result<(), AllocError>
+        requires types { length seen.now.types ≤ 134217728 }
+        requires names { length seen.now.names ≤ 134217728 }
+        requires protos { length seen.now.protos ≤ 134217728 }
+        requires room { length self.old.classes + length file.classes ≤ 2 ^ 32 }
+        ensures members { IfOk result (λ _. self.new ≡ with_file seen.now self.old file) }
+        ensures count { IfOk result (λ _. length self.new.classes ≡ length self.old.classes + length file.classes) }
+    {
+        let rows = find_rows(alloc, seen, &file)?;
+        self.push_classes(alloc, &rows, file.classes)
+    }
+}
+
+/// All classes of the files, with their members. Bodies are moved.
+#[tactic(auto, unfolding(crate::specs::Linked::members_in))]
+pub fn collect_members(
+    alloc: Global,
+    seen: &SeenLists,
+    files: Vec<FileParts>,
+) -> Result<ClassMembers, AllocError>
+    requires small { AreSmall files.items }
+    requires types { length seen.now.types ≤ 134217728 }
+    requires names { length seen.now.names ≤ 134217728 }
+    requires protos { length seen.now.protos ≤ 134217728 }
+    ensures { IfOk result (λ members. members ≡ members_in seen.now files.items) }
+{
+    let mut members = ClassMembers::new(alloc);
+    for file in files {
+        members.push_file(alloc, seen, file)?;
+    }
+    Ok(members)
 }

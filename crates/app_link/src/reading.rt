@@ -1,11 +1,14 @@
 //! Reading a whole DEX file.
 ghost use Rattle.std.specs.Prelude.{◌≡◌, ℕ, ◌+◌, ◌<◌, ◌≤◌, ◌↔◌, List, length, map, IfOk, Ok};
+ghost use Rattle.ns_base.specs.Answers.{limit_of};
+ghost use Rattle.ns_base.specs.declared.answers.Counted.TheVariants.{FileBytes};
 ghost use Rattle.dex_bytes.specs.Header.{header_at, header_of};
 ghost use Rattle.dex_tables.specs.Content.{AreTablesOf};
 ghost use Rattle.dex_tables.specs.Reading.{list_below, tables_at};
 ghost use Rattle.dex_tables.specs.Rows.{string_count, string_text};
 ghost use Rattle.app_link.specs.Exact.{IsExact, in_dex};
 ghost use Rattle.app_link.specs.Content.{file_of, proto_of, FileContent, IsContentOf};
+ghost use Rattle.app_link.specs.Linking.{IsSmall};
 ghost use Rattle.app_link.specs.Reading.{content_of};
 
 use crate::classes::{Classes, copy_list, read_classes};
@@ -126,4 +129,9 @@ pub fn read_dex(alloc: Global, bytes: &[u8]) -> Result<DexParts, FileFault>
 /// within the limits.
 pub fn content_law()
     ensures { (bs : List ℕ) (content : FileContent) → (content_of bs ≡ Ok content) ↔ IsContentOf bs content }
+{}
+
+/// The content of a file that is not longer than the program reads can be linked.
+pub fn small_law()
+    ensures { (bs : List ℕ) (content : FileContent) → IsContentOf bs content → length bs ≤ limit_of FileBytes → IsSmall content }
 {}

@@ -8,3 +8,4 @@ pub mod Steps
 pub mod Judged
 pub mod Listed
 pub mod PathTags
+pub mod Receivers

@@ -4,3 +4,4 @@ pub mod Scope
 pub mod Reached
 pub mod Verdict
 pub mod Walk
+pub mod Receiver

@@ -1,6 +1,6 @@
 //! Judges a receiver whose one callback is straight-line code over one static lock field.
 //!
-//! - `body` tells such code.
+//! - `receiver` tells such an application, and `body` its code.
 //! - `threads` tells calls of threads.
 //! - `path` follows the tags and the statuses along it, as far as no rule of scope is broken.
 //! - `views` finds the statuses between callbacks.
@@ -9,8 +9,10 @@
 
 mod body;
 mod path;
+mod receiver;
 mod threads;
 mod verdict;
 mod views;
 
+pub use receiver::is_receiver;
 pub use verdict::judge;

@@ -1,4 +1,4 @@
-use Rattle.std.proofs.Common.{◌≡◌, ◌≤◌, ◌+◌, ◌*◌, ◌++◌, ◌∷◌, [], length, map, take, drop, fold, slice_index}
+use Rattle.std.proofs.Common.{◌≡◌, ◌++◌, map, take, drop}
 use Rattle.app_link.specs.Linked.{linked_place}
 use Rattle.app_link.proofs.bodies.link_places.Given as goal
 

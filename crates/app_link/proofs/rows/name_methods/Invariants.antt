@@ -1,4 +1,4 @@
-use Rattle.std.proofs.Common.{◌≡◌, ◌≤◌, ◌+◌, ◌*◌, ◌++◌, ◌∷◌, [], length, map, take, drop, fold, slice_index}
+use Rattle.std.proofs.Common.{◌≡◌, map, take}
 use Rattle.app_link.specs.Linked.{named}
 use Rattle.app_link.proofs.rows.name_methods.Given as goal
 

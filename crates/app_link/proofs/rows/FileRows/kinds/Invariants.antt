@@ -1,4 +1,4 @@
-use Rattle.std.proofs.Common.{◌≡◌, ◌≤◌, ◌+◌, ◌*◌, ◌++◌, ◌∷◌, [], length, map, take, drop, fold, slice_index}
+use Rattle.std.proofs.Common.{◌≡◌, map, take}
 use Rattle.app_link.specs.Linked.{type_at}
 use Rattle.app_link.proofs.rows.FileRows.kinds.Given as goal
 

@@ -1,0 +1,11 @@
+use Rattle.std.proofs.Common.{◌≡◌, length}
+use Rattle.app_link.specs.Cycles.{AreAncestors, unmarked}
+use Rattle.app_link.proofs.cycles.mark_all.Given as goal
+
+abbrev pub invariant-loop : goal.invariant-loop
+invariant-loop l =
+    (length l.marks.items ≡ length l.initial.marks.items)
+    × (AreAncestors l.classes l.start l.initial.marks.items → AreAncestors l.classes l.start l.marks.items)
+
+abbrev pub decreases-loop : goal.decreases-loop
+decreases-loop l = unmarked l.marks.items

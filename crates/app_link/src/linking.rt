@@ -1,0 +1,106 @@
+//! Linking the files of an application.
+ghost use Rattle.std.specs.Prelude.{◌≡◌, ◌≤◌, ◌<◌, ◌^◌, [], length, IfOk};
+ghost use Rattle.app_model.specs.Words.{IsApp};
+ghost use Rattle.app_link.specs.LinkFaults.{◌or◌, code_fault_from, class_names, duplicate_of, repeat_from};
+ghost use Rattle.app_link.specs.declared.code_checks.CodeWrong.TheVariants.{Missing, Unwanted};
+ghost use Rattle.app_link.specs.Linking.{AreSmall, IsLinked, IsFinished};
+
+use crate::class_checks::{count_classes, duplicate_fault, find_place, find_repeat};
+use crate::code_checks::{CodeWrong, find_code_fault};
+use crate::cycles::find_cycle;
+use crate::limits::{above, find_sites_fault, find_units_fault};
+use crate::link_fault::LinkFault;
+use crate::making::make_rows;
+use crate::parts::{DexParts, FileParts};
+use app_model::{App, AppRows, ClassRow};
+use ns_base::Counted;
+use std::alloc::{AllocError, Global};
+
+// The first fault of a method's code.
+fn code_fault(files: &[FileParts]) -> Option<LinkFault>
+    requires { length files.now ≤ 16 }
+    ensures { result ≡ (code_fault_from Missing 0 files.now or code_fault_from Unwanted 0 files.now) }
+{
+    match find_code_fault(CodeWrong::Missing, files) {
+        Some(fault) => Some(fault),
+        None => find_code_fault(CodeWrong::Unwanted, files),
+    }
+}
+
+// The fault of two classes of one name, or else that of the code.
+fn early_fault(
+    alloc: Global,
+    counts: &[u32],
+    classes: &[ClassRow],
+    code: Option<LinkFault>,
+) -> Result<Option<LinkFault>, AllocError>
+    requires counts { length counts.now ≤ 16 }
+    requires classes { length classes.now < 2 ^ 32 }
+    ensures { IfOk result (λ fault. fault ≡ (duplicate_of counts.now (repeat_from [] (class_names classes.now)) or code)) }
+{
+    let repeat = find_repeat(alloc, classes)?;
+    match duplicate_fault(counts, repeat) {
+        Some(fault) => Ok(Some(fault)),
+        None => Ok(code),
+    }
+}
+
+// The application, unless a limit is exceeded: that of code units first.
+fn finish(rows: AppRows, units: Option<LinkFault>) -> Result<App, LinkFault>
+    requires { length rows.locks ≤ 64 → IsApp rows }
+    ensures { IsFinished units rows result }
+{
+    if let Some(fault) = units {
+        return Err(fault);
+    }
+    if let Some(fault) = above(Counted::Locks, rows.locks.len() as u128) {
+        return Err(fault);
+    }
+    let app = App::new(rows);
+    match find_sites_fault(&app) {
+        Some(fault) => Err(fault),
+        None => Ok(app),
+    }
+}
+
+// The contents of the files.
+fn take_parts(alloc: Global, files: Vec<DexParts>) -> Result<Vec<FileParts>, AllocError>
+    ensures { IfOk result (λ parts. parts.items ≡ files.items) }
+{
+    let mut taken = Vec::with_capacity(alloc, files.len())?;
+    for file in files {
+        let DexParts { parts } = file;
+        taken.push(parts)?;
+    }
+    Ok(taken)
+}
+
+/// The application of these contents, as `link` says.
+pub fn link_parts(alloc: Global, files: Vec<FileParts>) -> Result<App, LinkFault>
+    requires { AreSmall files.items }
+    ensures { IsLinked files.items result }
+{
+    let counts = count_classes(alloc, &files)?;
+    let code = code_fault(&files);
+    let units = find_units_fault(&files);
+    let rows = make_rows(alloc, files)?;
+    if let Some(fault) = early_fault(alloc, &counts, &rows.classes, code)? {
+        return Err(fault);
+    }
+    if let Some(class) = find_cycle(alloc, &rows.classes)? {
+        let place = find_place(&counts, class);
+        return Err(LinkFault::SuperCycle(place.file, place.row));
+    }
+    finish(rows, units)
+}
+
+/// The application of these files, or their first fault: two classes of one name; code that is
+/// missing, then code that is unwanted; a class that is its own ancestor; then the limits of code
+/// units, wake-lock fields and calls that make a lock. Each by file and row.
+pub fn link(alloc: Global, files: Vec<DexParts>) -> Result<App, LinkFault>
+    requires { AreSmall files.items }
+    ensures { IsLinked files.items result }
+{
+    let parts = take_parts(alloc, files)?;
+    link_parts(alloc, parts)
+}
