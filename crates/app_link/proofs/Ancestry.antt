@@ -3,8 +3,8 @@ use Rattle.std.proofs.Common.{◌≡◌, ◌<◌, ◌≤◌, ◌+◌, ◌||◌, 
 use Rattle.std.proofs.lemmas.Bool.{cases_lt}
 use Rattle.ns_base.specs.declared.rows.TypeNo.{TypeNo}
 use Rattle.app_model.specs.Parts.{ClassParts}
-use Rattle.app_link.specs.LinkFaults.{IsParent, IsAncestor, its_parent, further}
-use Rattle.app_link.specs.Cycles.{rank_limit, AreRanked, Marks, IsMarked, IsMet, AreAncestors, AreDone, unmarked}
+use Rattle.app_model.specs.Ancestors.{IsParent, IsAncestor, its_parent, further}
+use Rattle.app_link.specs.Cycles.{rank_limit, AreRanked, Marks, IsMarked, IsMet, AreAncestors, AreDone, unmarked, Climbs}
 
 -- the element at a place, in two ways
 get_at : {X : Type 0} (xs : List X) (i : ℕ) (x : X) → i < length xs → get_or xs i x ≡ x → slice_get xs i ≡ Some x
@@ -77,6 +77,19 @@ marks_wider old new a P Q h within = record {
   fewer = h.fewer;
 }
 
+-- the same, where more types may have been marked
+pub climbs_more : (old mid new : List Bool) (P Q : ℕ → Type 0) → Climbs old mid P → Climbs mid new Q → ((u : ℕ) → Q u → P u) → Climbs old new P
+climbs_more old mid new P Q first next within = record {
+  len = next.len ∙ first.len;
+  only = λ u marked. ⊎_elim (first.only u) (λ q. inr (within u q)) (next.only u marked);
+}
+
+pub climbs_wider : (old new : List Bool) (P Q : ℕ → Type 0) → Climbs old new P → ((u : ℕ) → P u → Q u) → Climbs old new Q
+climbs_wider old new P Q h within = record {
+  len = h.len;
+  only = λ u marked. ⊎_elim inl (λ p. inr (within u p)) (h.only u marked);
+}
+
 -- fewer are unmarked after more marks
 pub unmarked_more : (first mid new : List Bool) (a b : Bool) (P : ℕ → Type 0) → (a ≡ true → unmarked mid < unmarked first) → unmarked mid ≤ unmarked first → Marks mid new b P
     → ((a || b) ≡ true → unmarked new < unmarked first) × (unmarked new ≤ unmarked first)
@@ -98,6 +111,12 @@ pub met_parent : (classes : List ClassParts) (t : ℕ) (marks : List Bool) (c : 
     → IsMet t marks class → IsParent class u → IsAncestor classes t u
 met_parent classes t marks c class u all at (inl name) p = its_parent class (contains_at classes c class at) name p
 met_parent classes t marks c class u all at (inr marked) p = above classes t class.name.0 u class (all class.name.0 marked) (contains_at classes c class at) refl p
+
+-- after a climb from a class that is met only ancestors are marked
+pub climbs_up : (classes : List ClassParts) (t : ℕ) (old new : List Bool) (c : ℕ) (class : ClassParts) → slice_get classes c ≡ Some class
+    → Climbs old new (λ u. IsMet t old class × IsParent class u) → AreAncestors classes t old → AreAncestors classes t new
+climbs_up classes t old new c class at h all = λ u marked.
+    ⊎_elim (all u) (λ p. met_parent classes t old c class u all at p.0 p.1) (h.only u marked)
 
 -- where all are done, what is above t is marked
 pub marked_all : (classes : List ClassParts) (t : ℕ) (marks : List Bool) (s v : ℕ) → AreDone classes t marks (length classes) → IsAncestor classes s v → (s ≡ t) ⊎ IsMarked marks s → IsMarked marks v

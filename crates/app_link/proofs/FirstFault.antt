@@ -1,5 +1,5 @@
 -- Which faults come early, and which late.
-use Rattle.std.proofs.Common.{◌≡◌, ℕ, suc, Bool, true, false, List, [], ◌∷◌, Option, Some, None, option_map, Result, Ok, Err, if◌then◌else◌, subst}
+use Rattle.std.proofs.Common.{◌≡◌, ◌⊎◌, inl, inr, refl, sym, ap, ◌∙◌, ℕ, suc, Bool, true, false, List, [], ◌∷◌, Option, Some, None, option_map, Result, Ok, Err, if◌then◌else◌, subst}
 use Rattle.ns_base.specs.declared.answers.Counted.{Counted}
 use Rattle.app_model.specs.Parts.{AppParts}
 use Rattle.app_link.specs.declared.link_fault.LinkFault.{LinkFault}
@@ -7,10 +7,11 @@ use Rattle.app_link.specs.declared.link_fault.LinkFault.TheVariants.{DuplicateCl
 use Rattle.app_link.specs.declared.class_checks.Repeat.{Repeat}
 use Rattle.app_link.specs.declared.code_checks.CodeWrong.{CodeWrong}
 use Rattle.app_link.specs.declared.code_checks.CodeWrong.TheVariants.{Missing, Unwanted}
-use Rattle.app_link.specs.Content.{FileContent}
-use Rattle.app_link.specs.Linked.{linked}
+use Rattle.dex_file.specs.Content.{FileContent}
+use Rattle.app_rows.specs.Linked.{linked}
 use Rattle.app_link.specs.LinkFaults.{◌or◌, duplicate_of, duplicate_fault, code_fault, code_fault_from, wrong_in_classes, units_fault, locks_fault}
 use Rattle.app_link.specs.Linking.{IsLinked, IsFinished, IsAcyclic, early_fault, late_fault}
+use Rattle.app_link.proofs.Ancestry.{at_get}
 
 abbrev IsEarly : Option LinkFault → Type 0
 IsEarly None = Unit {0}
@@ -84,3 +85,13 @@ pub finished : (files : List FileContent) (rows : AppParts) (units : Option Link
     → early_fault files ≡ None → IsAcyclic files → IsFinished units rows result → IsLinked files result
 finished files rows units result are is early acyclic end =
     ended files result early acyclic (subst (λ r. IsFinished (units_fault files) r result) are (subst (λ u. IsFinished u rows result) is end))
+
+-- files that have an application have no other answer but want of memory
+pub linked_once : (files : List FileContent) (app : AppParts) (other : Result AppParts LinkFault) → IsLinked files (Ok app) → IsLinked files other → (other ≡ Ok app) ⊎ (other ≡ Err Memory)
+linked_once files app (Ok b) p q = inl (ap Ok (q.0 ∙ sym p.0))
+linked_once files app (Err Memory) p q = inr refl
+linked_once files app (Err (SuperCycle file row)) p q = absurd (p.2 q.1.number q.1.class (at_get _ _ _ q.1.there).0 q.1.there q.1.cyclic)
+linked_once files app (Err (Limit which)) p q = let none = p.3 in let some = q.2 in absurd (let no : ⊥ = cc in no)
+linked_once files app (Err (DuplicateClass file row earlier)) p q = let none = p.1 in absurd (let no : ⊥ = cc in no)
+linked_once files app (Err (CodeMissing file method)) p q = let none = p.1 in absurd (let no : ⊥ = cc in no)
+linked_once files app (Err (CodeUnwanted file method)) p q = let none = p.1 in absurd (let no : ⊥ = cc in no)

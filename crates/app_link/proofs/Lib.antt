@@ -1,11 +1,3 @@
-pub mod Chains
-pub mod ClassLaw
-pub mod ContentLaw
-pub mod Distinct
-pub mod Fronts
-pub mod MethodLaw
-pub mod Moved
-pub mod Sizes
-pub mod Small
 pub mod Ancestry
 pub mod FirstFault
+pub mod SoundApp

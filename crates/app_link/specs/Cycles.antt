@@ -1,7 +1,8 @@
 -- What a search among superclasses and interfaces knows.
 use Rattle.std.specs.Prelude.{ℕ, ◌≡◌, ◌<◌, ◌+◌, ◌%◌, ◌⊎◌, List, length, Bool, true, false, cond, sum_by, Option, Some, None, slice_get, slice_index, slice_index_or}
 use Rattle.app_model.specs.Parts.{ClassParts}
-use Rattle.app_link.specs.LinkFaults.{IsParent, IsAncestor, IsCyclic, IsAcyclicBelow}
+use Rattle.app_model.specs.Ancestors.{IsParent, IsAncestor, IsCyclic}
+use Rattle.app_link.specs.LinkFaults.{IsAcyclicBelow}
 
 -- the ranks of a class's parents are below n; a type has its rank by number, past the list it is 0
 abbrev pub AreParentsBelow : List ℕ → ClassParts → ℕ → Type 0
@@ -33,6 +34,11 @@ pub record Marks (old new : List Bool) (changed : Bool) (P : ℕ → Type 0) : T
   pub kept : (u : ℕ) → IsMarked old u → IsMarked new u
   pub same : changed ≡ false → new ≡ old
   pub fewer : changed ≡ true → unmarked new < unmarked old
+
+-- only such types were marked
+pub record Climbs (old new : List Bool) (P : ℕ → Type 0) : Type 0 where
+  pub len : length new ≡ length old
+  pub only : (u : ℕ) → IsMarked new u → IsMarked old u ⊎ P u
 
 -- only types above t are marked
 abbrev pub AreAncestors : List ClassParts → ℕ → List Bool → Type 0

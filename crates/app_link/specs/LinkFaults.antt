@@ -1,10 +1,12 @@
 -- Why files are no application, and which fault comes first.
-use Rattle.std.specs.Prelude.{ℕ, zero, suc, ◌≡◌, ◌<◌, ◌⊎◌, ◌+◌, ◌-◌, ◌==◌, ◌&&◌, true, false, nat_lt, nat_eq, not, List, [], ◌∷◌, ◌++◌, length, map, sum_by, position, bit_and, Bool, if◌then◌else◌, is_some, option_map, Option, Some, None, Contains, slice_get}
+use Rattle.std.specs.Prelude.{ℕ, zero, suc, ◌≡◌, ◌<◌, ◌+◌, ◌-◌, ◌==◌, ◌&&◌, true, false, nat_lt, nat_eq, not, List, [], ◌∷◌, ◌++◌, length, map, sum_by, position, bit_and, Bool, if◌then◌else◌, is_some, option_map, Option, Some, None, slice_get}
 use Rattle.ns_base.specs.Answers.{limit_of}
 use Rattle.ns_base.specs.declared.answers.Counted.{Counted}
 use Rattle.ns_base.specs.declared.answers.Counted.TheVariants.{Units, Locks, Sites}
 use Rattle.app_model.specs.declared.lock_use.LockUse.{LockUse}
 use Rattle.app_model.specs.declared.lock_use.LockUse.TheVariants.{Make}
+use Rattle.app_model.specs.Access.{is_bodiless}
+use Rattle.app_model.specs.Ancestors.{IsCyclic}
 use Rattle.app_model.specs.Parts.{AppParts, ClassParts}
 use Rattle.app_model.specs.LockUse.{lock_use_at}
 use Rattle.app_model.specs.Words.{code_len}
@@ -14,9 +16,9 @@ use Rattle.app_link.specs.declared.class_checks.ClassPlace.{ClassPlace}
 use Rattle.app_link.specs.declared.class_checks.Repeat.{Repeat}
 use Rattle.app_link.specs.declared.code_checks.CodeWrong.{CodeWrong}
 use Rattle.app_link.specs.declared.code_checks.CodeWrong.TheVariants.{Missing, Unwanted}
-use Rattle.app_link.specs.declared.parts.FileMethod.{FileMethod}
-use Rattle.app_link.specs.Content.{ClassContent, FileContent}
-use Rattle.app_link.specs.Linked.{linked}
+use Rattle.dex_file.specs.declared.parts.FileMethod.{FileMethod}
+use Rattle.dex_file.specs.Content.{ClassContent, FileContent}
+use Rattle.app_rows.specs.Linked.{linked}
 
 -- the first of two, where there is one
 infixr 5 ◌or◌
@@ -58,10 +60,6 @@ duplicate_of counts (Some repeat) =
 abbrev pub duplicate_fault : List FileContent → Option LinkFault
 duplicate_fault files = duplicate_of (class_counts files) (repeat_from [] (class_names (linked files).classes))
 
--- whether access flags have ABSTRACT or NATIVE
-abbrev pub is_bodiless : ℕ → Bool
-is_bodiless flags = not (bit_and flags 0x500 == 0)
-
 -- a method is neither abstract nor native and has no code, or is one of these and has code
 abbrev pub is_wrong : CodeWrong → FileMethod → Bool
 is_wrong Missing method = not (is_bodiless method.flags) && not (is_some method.code)
@@ -88,20 +86,7 @@ abbrev pub code_fault_from : CodeWrong → ℕ → List FileContent → Option L
 code_fault_from wrong n [] = None
 code_fault_from wrong n (file ∷ more) = option_map (code_fault wrong n) (wrong_in_classes wrong file.classes) or code_fault_from wrong (suc n) more
 
--- a class has this superclass, or interface
-abbrev pub IsParent : ClassParts → ℕ → Type 0
-IsParent class t = (class.parent ≡ Some (record { 0 = t })) ⊎ Contains class.interfaces (record { 0 = t })
-
--- type u stands above type t: a class of that name has it as a parent, or has a parent that it stands above
-pub data IsAncestor (classes : List ClassParts) : ℕ → ℕ → Type 0 where
-  its_parent : {t u : ℕ} (class : ClassParts) → Contains classes class → class.name.0 ≡ t → IsParent class u → IsAncestor classes t u
-  further : {t u v : ℕ} (class : ClassParts) → Contains classes class → class.name.0 ≡ t → IsParent class u → IsAncestor classes u v → IsAncestor classes t v
-
--- a class that is its own ancestor
-abbrev pub IsCyclic : List ClassParts → ClassParts → Type 0
-IsCyclic classes class = IsAncestor classes class.name.0 class.name.0
-
--- none of the first n classes is
+-- none of the first n classes is its own ancestor
 abbrev pub IsAcyclicBelow : List ClassParts → ℕ → Type 0
 IsAcyclicBelow classes n = (c : ℕ) (class : ClassParts) → c < n → slice_get classes c ≡ Some class → ¬ IsCyclic classes class
 

@@ -1,37 +1,20 @@
 -- What linking files answers.
-use Rattle.std.specs.Prelude.{ℕ, ◌≡◌, ◌≤◌, ◌+◌, List, length, sum_by, Option, Some, None, Result, Ok, Err, slice_get}
+use Rattle.std.specs.Prelude.{ℕ, ◌≡◌, ◌≤◌, List, length, Option, Some, None, Result, Ok, Err, slice_get}
 use Rattle.std.specs.List.{All}
-use Rattle.ns_base.specs.Answers.{limit_of}
-use Rattle.ns_base.specs.declared.answers.Counted.TheVariants.{Members}
 use Rattle.app_model.specs.Parts.{AppParts, ClassParts}
 use Rattle.app_link.specs.declared.link_fault.LinkFault.{LinkFault}
 use Rattle.app_link.specs.declared.link_fault.LinkFault.TheVariants.{DuplicateClass, CodeMissing, CodeUnwanted, SuperCycle, Limit, Memory}
 use Rattle.app_link.specs.declared.code_checks.CodeWrong.TheVariants.{Missing, Unwanted}
-use Rattle.app_link.specs.Content.{ClassContent, FileContent}
-use Rattle.app_link.specs.Linked.{linked}
-use Rattle.app_link.specs.LinkFaults.{◌or◌, class_place, duplicate_fault, code_fault_from, IsCyclic, IsAcyclicBelow, units_fault, locks_fault, sites_fault}
+use Rattle.dex_file.specs.Content.{FileContent}
+use Rattle.dex_file.specs.Sizes.{IsShort}
+use Rattle.app_rows.specs.Linked.{linked}
+use Rattle.app_model.specs.Ancestors.{IsCyclic}
+use Rattle.app_link.specs.LinkFaults.{◌or◌, class_place, duplicate_fault, code_fault_from, IsAcyclicBelow, units_fault, locks_fault, sites_fault}
 
--- the fields and methods of the classes of a file
-abbrev pub members_of : ClassContent → ℕ
-members_of class = length class.statics + length class.instances + length class.directs + length class.virtuals
-
-abbrev pub member_count : FileContent → ℕ
-member_count file = sum_by members_of file.classes
-
--- no table of a file is longer than its limit
-pub record IsSmall (file : FileContent) : Type 0 where
-  pub strings : length file.strings ≤ 8388608
-  pub types : length file.types ≤ 8388608
-  pub protos : length file.protos ≤ 8388608
-  pub fields : length file.fields ≤ 8388608
-  pub methods : length file.methods ≤ 8388608
-  pub classes : length file.classes ≤ 8388608
-  pub members : member_count file ≤ limit_of Members
-
--- the files of an application
-pub record AreSmall (files : List FileContent) : Type 0 where
+-- the files of an application: their members were counted when they were read
+pub record AreShort (files : List FileContent) : Type 0 where
   pub count : length files ≤ 16
-  pub each : All IsSmall files
+  pub each : All IsShort files
 
 -- the faults that come before those of superclasses
 abbrev pub early_fault : List FileContent → Option LinkFault

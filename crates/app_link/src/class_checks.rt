@@ -1,11 +1,11 @@
 //! Classes of one name, and where a class stands in the files.
 ghost use Rattle.std.specs.Prelude.{◌≡◌, ◌≤◌, ◌<◌, ◌^◌, ◌++◌, ◌∷◌, [], length, nat_eq, position, IfOk, None, Some, ℕ};
 ghost use Rattle.app_link.specs.LinkFaults.{class_counts, class_names, place_from, repeat_from, duplicate_of};
-ghost use Rattle.app_link.specs.Linking.{AreSmall};
+ghost use Rattle.app_rows.specs.Small.{AreSmall};
 
 use crate::link_fault::LinkFault;
-use crate::parts::FileParts;
 use app_model::ClassRow;
+use dex_file::FileParts;
 use indexmap::IndexSet;
 use std::alloc::{AllocError, Global};
 

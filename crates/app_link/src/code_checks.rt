@@ -1,9 +1,11 @@
 //! Methods that lack code, or have some that they are not to have.
 ghost use Rattle.std.specs.Prelude.{◌≡◌, ◌≤◌, length};
-ghost use Rattle.app_link.specs.LinkFaults.{is_bodiless, is_wrong, wrong_in, wrong_in_class, wrong_in_classes, code_fault, code_fault_from};
+ghost use Rattle.app_model.specs.Access.{is_bodiless};
+ghost use Rattle.app_link.specs.LinkFaults.{is_wrong, wrong_in, wrong_in_class, wrong_in_classes, code_fault, code_fault_from};
 
 use crate::link_fault::LinkFault;
-use crate::parts::{FileClass, FileMethod, FileParts};
+use app_model::access;
+use dex_file::{FileClass, FileMethod, FileParts};
 
 /// What can be wrong with the code of a method.
 #[derive(Clone, Copy)]
@@ -14,12 +16,10 @@ pub enum CodeWrong {
     Unwanted,
 }
 
-const ABSTRACT_OR_NATIVE: u32 = 0x500;
-
 fn is_bodiless(flags: u32) -> bool
     ensures { result ≡ is_bodiless flags }
 {
-    flags & ABSTRACT_OR_NATIVE != 0
+    flags & (access::ABSTRACT | access::NATIVE) != 0
 }
 
 fn is_wrong(wrong: CodeWrong, method: &FileMethod) -> bool

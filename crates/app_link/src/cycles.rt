@@ -3,12 +3,12 @@
 //! no class of an even rank is its own ancestor. Only the others are searched for one by one.
 ghost use Rattle.std.specs.Prelude.{◌≡◌, ◌≤◌, ◌<◌, ◌↔◌, ◌^◌, ℕ, length, true, false, replicate, slice_get, slice_index, Some, Contains, IfOk, IsTrue};
 ghost use Rattle.ns_base.specs.declared.rows.TypeNo.{TypeNo};
-ghost use Rattle.app_link.specs.LinkFaults.{IsParent, IsAncestor, IsCyclic};
-ghost use Rattle.app_link.specs.Cycles.{AreParentsBelow, AreRanked, AreTypesBelow, Marks, IsMarked, IsMet, IsDone, AreAncestors, AreDone, unmarked, IsCycleAnswer};
+ghost use Rattle.app_model.specs.Ancestors.{IsParent, IsAncestor, IsCyclic};
+ghost use Rattle.app_link.specs.Cycles.{AreParentsBelow, AreRanked, AreTypesBelow, Marks, IsMarked, IsMet, IsDone, AreAncestors, AreDone, unmarked, IsCycleAnswer, Climbs};
 
-use crate::numbers::number_at;
-use crate::ranks::rank_types;
+use crate::ranks::{class_table, rank_types};
 use app_model::ClassRow;
+use app_rows::number_at;
 use ns_base::TypeNo;
 use std::alloc::{AllocError, Global};
 
@@ -193,6 +193,135 @@ fn mark_all(start: u32, marks: &mut Vec<bool>, classes: &[ClassRow])
     while visit_all(start, marks, classes) {}
 }
 
+// Marks a type, and puts it on the stack where it was not marked.
+fn mark_open(marks: &mut Vec<bool>, open: &mut Vec<u32>, kind: TypeNo) -> Result<(), AllocError>
+    requires { kind.0 < length marks.old.items }
+    ensures { Climbs marks.old.items marks.new.items (λ u. u ≡ kind.0) }
+{
+    if mark(marks, kind) {
+        open.push(kind.0)?;
+    }
+    Ok(())
+}
+
+fn climb_parent(
+    marks: &mut Vec<bool>,
+    open: &mut Vec<u32>,
+    parent: Option<TypeNo>,
+) -> Result<(), AllocError>
+    requires { (u : ℕ) → parent ≡ Some (record { 0 = u }) → u < length marks.old.items }
+    ensures { Climbs marks.old.items marks.new.items (λ u. parent ≡ Some (record { 0 = u })) }
+{
+    match parent {
+        Some(parent) => mark_open(marks, open, parent),
+        None => Ok(()),
+    }
+}
+
+fn climb_list(marks: &mut Vec<bool>, open: &mut Vec<u32>, list: &[TypeNo]) -> Result<(), AllocError>
+    requires { (i : ℕ) (t : TypeNo) → slice_get list.now i ≡ Some t → t.0 < length marks.old.items }
+    ensures { Climbs marks.old.items marks.new.items (λ u. Contains list.now (record { 0 = u })) }
+{
+    for i in 0..list.len() {
+        mark_open(marks, open, list[i])?;
+    }
+    Ok(())
+}
+
+fn climb_parents(
+    marks: &mut Vec<bool>,
+    open: &mut Vec<u32>,
+    class: &ClassRow,
+) -> Result<(), AllocError>
+    requires { (u : ℕ) → IsParent class.now u → u < length marks.old.items }
+    ensures { Climbs marks.old.items marks.new.items (IsParent class.now) }
+{
+    climb_parent(marks, open, class.parent)?;
+    climb_list(marks, open, &class.interfaces)
+}
+
+// Climbs from a class that is met, so that nothing has to be known of the stack or of the table.
+fn climb_class(
+    start: u32,
+    marks: &mut Vec<bool>,
+    open: &mut Vec<u32>,
+    class: &ClassRow,
+) -> Result<(), AllocError>
+    requires { (u : ℕ) → IsParent class.now u → u < length marks.old.items }
+    ensures { Climbs marks.old.items marks.new.items (λ u. IsMet start marks.old.items class.now × IsParent class.now u) }
+{
+    if is_met(start, marks, class) {
+        climb_parents(marks, open, class)
+    } else {
+        Ok(())
+    }
+}
+
+fn climb_from(
+    start: u32,
+    marks: &mut Vec<bool>,
+    open: &mut Vec<u32>,
+    classes: &[ClassRow],
+    place: usize,
+) -> Result<(), AllocError>
+    requires { AreTypesBelow classes.now (length marks.old.items) }
+    ensures len { length marks.new.items ≡ length marks.old.items }
+    ensures ancestors { AreAncestors classes.now start marks.old.items → AreAncestors classes.now start marks.new.items }
+{
+    if place < classes.len() {
+        climb_class(start, marks, open, &classes[place])
+    } else {
+        Ok(())
+    }
+}
+
+// Takes one type from the stack; false where there is none.
+fn climb_once(
+    start: u32,
+    marks: &mut Vec<bool>,
+    open: &mut Vec<u32>,
+    classes: &[ClassRow],
+    table: &[u32],
+) -> Result<bool, AllocError>
+    requires { AreTypesBelow classes.now (length marks.old.items) }
+    ensures len { length marks.new.items ≡ length marks.old.items }
+    ensures ancestors { AreAncestors classes.now start marks.old.items → AreAncestors classes.now start marks.new.items }
+{
+    let Some(kind) = open.pop() else {
+        return Ok(false);
+    };
+    let number = number_at(table, kind);
+    if number > 0 {
+        climb_from(start, marks, open, classes, number as usize - 1)?;
+    }
+    Ok(true)
+}
+
+// Marks what is above the type, from class to class. It may miss some, which the visits of all classes
+// find; but without it a long way up against the order of the classes took a visit of all for each step.
+// A type is put on the stack when it is marked, so there are at most as many steps as types, and the first.
+fn climb(
+    alloc: Global,
+    start: u32,
+    marks: &mut Vec<bool>,
+    classes: &[ClassRow],
+) -> Result<(), AllocError>
+    requires classes { length classes.now < 2 ^ 32 }
+    requires types { AreTypesBelow classes.now (length marks.old.items) }
+    ensures len { length marks.new.items ≡ length marks.old.items }
+    ensures ancestors { AreAncestors classes.now start marks.old.items → AreAncestors classes.now start marks.new.items }
+{
+    let table = class_table(alloc, classes)?;
+    let mut open = Vec::new(alloc);
+    open.push(start)?;
+    for _ in 0..=marks.len() {
+        if !climb_once(start, marks, &mut open, classes, &table)? {
+            return Ok(());
+        }
+    }
+    Ok(())
+}
+
 fn no_marks(alloc: Global, count: usize) -> Result<Vec<bool>, AllocError>
     ensures { IfOk result (λ marks. marks.items ≡ replicate count false) }
 {
@@ -201,9 +330,11 @@ fn no_marks(alloc: Global, count: usize) -> Result<Vec<bool>, AllocError>
 
 // Whether a type is above itself, by marking all that is.
 fn search(alloc: Global, start: u32, classes: &[ClassRow]) -> Result<bool, AllocError>
+    requires { length classes.now < 2 ^ 32 }
     ensures { IfOk result (λ found. IsTrue found ↔ IsAncestor classes.now start start) }
 {
     let mut marks = no_marks(alloc, type_bound(classes))?;
+    climb(alloc, start, &mut marks, classes)?;
     mark_all(start, &mut marks, classes);
     let found = is_marked(&marks, start);
     Ok(found)
@@ -216,7 +347,8 @@ fn is_own_ancestor(
     class: &ClassRow,
     classes: &[ClassRow],
 ) -> Result<bool, AllocError>
-    requires { IsTrue ranked → AreRanked ranks.now classes.now }
+    requires ranked { IsTrue ranked → AreRanked ranks.now classes.now }
+    requires classes { length classes.now < 2 ^ 32 }
     ensures { IfOk result (λ found. IsTrue found ↔ IsCyclic classes.now class.now) }
 {
     if ranked && number_at(ranks, class.name.0) % 2 == 0 {

@@ -4,8 +4,8 @@ ghost use Rattle.app_model.specs.Words.{code_len};
 ghost use Rattle.app_link.specs.LinkFaults.{above, is_make, sites_in, sites_below, units_fault, sites_fault};
 
 use crate::link_fault::LinkFault;
-use crate::parts::FileParts;
 use app_model::{App, LockUse};
+use dex_file::FileParts;
 use ns_base::{Counted, MethodNo, limit};
 
 /// The fault of so many, where they are more than the limit.

@@ -1,18 +1,25 @@
 //! Linking the files of an application.
-ghost use Rattle.std.specs.Prelude.{◌≡◌, ◌≤◌, ◌<◌, ◌^◌, [], length, IfOk};
+ghost use Rattle.std.specs.Prelude.{◌≡◌, ◌≤◌, ◌<◌, ◌^◌, List, Ok, [], length, IfOk};
 ghost use Rattle.app_model.specs.Words.{IsApp};
 ghost use Rattle.app_link.specs.LinkFaults.{◌or◌, code_fault_from, class_names, duplicate_of, repeat_from};
 ghost use Rattle.app_link.specs.declared.code_checks.CodeWrong.TheVariants.{Missing, Unwanted};
-ghost use Rattle.app_link.specs.Linking.{AreSmall, IsLinked, IsFinished};
+ghost use Rattle.std.specs.List.{All};
+ghost use Rattle.app_model.specs.Parts.{AppParts};
+ghost use Rattle.app_model.specs.Sound.{IsSoundApp};
+ghost use Rattle.dex_file.specs.Content.{FileContent};
+ghost use Rattle.dex_file.specs.Reading.{IsContent};
+ghost use Rattle.dex_file.specs.Sizes.{HasFewMembers};
+ghost use Rattle.app_rows.specs.Small.{AreSmall};
+ghost use Rattle.app_link.specs.Linking.{AreShort, IsLinked, IsFinished};
 
 use crate::class_checks::{count_classes, duplicate_fault, find_place, find_repeat};
 use crate::code_checks::{CodeWrong, find_code_fault};
 use crate::cycles::find_cycle;
 use crate::limits::{above, find_sites_fault, find_units_fault};
 use crate::link_fault::LinkFault;
-use crate::making::make_rows;
-use crate::parts::{DexParts, FileParts};
 use app_model::{App, AppRows, ClassRow};
+use app_rows::make_rows;
+use dex_file::{DexParts, FileParts};
 use ns_base::Counted;
 use std::alloc::{AllocError, Global};
 
@@ -65,12 +72,13 @@ fn finish(rows: AppRows, units: Option<LinkFault>) -> Result<App, LinkFault>
 
 // The contents of the files.
 fn take_parts(alloc: Global, files: Vec<DexParts>) -> Result<Vec<FileParts>, AllocError>
-    ensures { IfOk result (λ parts. parts.items ≡ files.items) }
+    ensures same { IfOk result (λ parts. parts.items ≡ files.items) }
+    ensures contents { IfOk result (λ parts. All IsContent parts.items) }
+    ensures few { IfOk result (λ parts. All HasFewMembers parts.items) }
 {
     let mut taken = Vec::with_capacity(alloc, files.len())?;
     for file in files {
-        let DexParts { parts } = file;
-        taken.push(parts)?;
+        taken.push(file.into_parts())?;
     }
     Ok(taken)
 }
@@ -96,11 +104,20 @@ pub fn link_parts(alloc: Global, files: Vec<FileParts>) -> Result<App, LinkFault
 
 /// The application of these files, or their first fault: two classes of one name; code that is
 /// missing, then code that is unwanted; a class that is its own ancestor; then the limits of code
-/// units, wake-lock fields and calls that make a lock. Each by file and row.
+/// units, wake-lock fields and calls that make a lock. Each by file and row. `IsSoundApp` is all that the
+/// layers above may rely on.
 pub fn link(alloc: Global, files: Vec<DexParts>) -> Result<App, LinkFault>
-    requires { AreSmall files.items }
-    ensures { IsLinked files.items result }
+    requires { AreShort files.items }
+    ensures linked { IsLinked files.items result }
+    ensures sound { IfOk result IsSoundApp }
 {
     let parts = take_parts(alloc, files)?;
     link_parts(alloc, parts)
 }
+
+/// What holds of the application of files that were read: each number is a row of its table, what is
+/// spelled alike has one number, no class is its own ancestor, the lock fields are those of the wake
+/// lock's type, and code fits its methods.
+pub fn app_law()
+    ensures { (files : List FileContent) (app : AppParts) → All IsContent files → IsLinked files (Ok app) → IsSoundApp app }
+{}

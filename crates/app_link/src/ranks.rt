@@ -4,8 +4,8 @@
 //! ranks: who uses them tests them.
 ghost use Rattle.std.specs.Prelude.{◌<◌, ◌^◌, length};
 
-use crate::numbers::number_at;
 use app_model::ClassRow;
+use app_rows::number_at;
 use ns_base::TypeNo;
 use std::alloc::{AllocError, Global};
 
@@ -49,7 +49,8 @@ fn name_bound(classes: &[ClassRow]) -> usize {
     bound as usize + 1
 }
 
-fn class_table(alloc: Global, classes: &[ClassRow]) -> Result<Vec<u32>, AllocError>
+/// The class of each type, by its number and 1; 0 for none. Nothing is promised of it: who uses it tests it.
+pub fn class_table(alloc: Global, classes: &[ClassRow]) -> Result<Vec<u32>, AllocError>
     requires { length classes.now < 2 ^ 32 }
 {
     let mut table = vec![in alloc; 0; name_bound(classes)]?;

@@ -1,260 +1,413 @@
-//! A small file of the class `Lapp/R;`, with a static lock and the methods `<init>` and `onReceive`. Its
-//! two sums were computed by other programs, as were those of the same file with some bytes put elsewhere.
-use crate::parts::FileParts;
-use crate::{DexParts, FileFault, read_dex};
-use dalvik_decode::CodeFault;
-use dex_bytes::DexFault;
+//! Files linked: each fault where it comes first, and numbers over two files.
+ghost use Rattle.std.specs.Prelude.{◌≡◌, ◌≤◌, ◌^◌, sum_by, IsTrue};
+ghost use Rattle.dex_file.specs.Sizes.{members_of};
+ghost use Rattle.app_rows.specs.Small.{AreSmall, IsSmall};
+
+use crate::LinkFault;
+use crate::linking::link_parts;
+use crate::ranks::rank_types;
+use app_model::{App, Body, ClassRow};
+use dex_file::{FileClass, FileCode, FileField, FileMethod, FileParts, FileProto};
 use dex_tables::{FieldId, MethodId};
+use ns_base::{ClassNo, Counted, MethodNo, TypeNo};
 use std::alloc::{AllocError, Global};
 use std::test::Fail;
 
-// The header from the file size on.
-const HEAD: [u32; 20] = [
-    494,
-    112,
-    0x1234_5678,
-    0,
-    0,
-    0,
-    10,
-    112,
-    6,
-    152,
-    2,
-    176,
-    1,
-    200,
-    3,
-    208,
-    1,
-    232,
-    0,
-    0,
-];
+// A class: its type, its superclass, its interfaces, and the flags of a method, with code or without.
+#[derive(Clone, Copy)]
+struct ClassForm {
+    kind: u32,
+    parent: Option<u32>,
+    interfaces: &'static [u16],
+    method: Option<(u32, bool)>,
+}
 
-const IDS: [u8; 152] = [
-    0x10, 1, 0, 0, 0x19, 1, 0, 0, 0x3e, 1, 0, 0, 0x62, 1, 0, 0, // strings
-    0x65, 1, 0, 0, 0x69, 1, 0, 0, 0x74, 1, 0, 0, 0x79, 1, 0, 0, //
-    0x94, 1, 0, 0, 0xae, 1, 0, 0, //
-    0, 0, 0, 0, 1, 0, 0, 0, 2, 0, 0, 0, 3, 0, 0, 0, 7, 0, 0, 0, 8, 0, 0, 0, // types
-    6, 0, 0, 0, 3, 0, 0, 0, 8, 1, 0, 0, // protos
-    3, 0, 0, 0, 3, 0, 0, 0, 0, 0, 0, 0, //
-    0, 0, 2, 0, 4, 0, 0, 0, // fields
-    0, 0, 1, 0, 9, 0, 0, 0, 0, 0, 0, 0, 5, 0, 0, 0, // methods
-    1, 0, 1, 0, 9, 0, 0, 0, //
-    0, 0, 0, 0, 1, 0, 0, 0, 1, 0, 0, 0, 0, 0, 0, 0, // classes
-    0xff, 0xff, 0xff, 0xff, 0, 0, 0, 0, 0xb6, 1, 0, 0, 0, 0, 0, 0, //
-];
+// A file: its strings, each of which is a type; its classes; and how many fields of the second type
+// each class has.
+#[derive(Clone, Copy)]
+struct FileForm {
+    texts: &'static [&'static str],
+    classes: &'static [ClassForm],
+    fields: u32,
+}
 
-const TEXTS: [&str; 10] = [
-    "Lapp/R;",
-    "Landroid/content/BroadcastReceiver;",
-    "Landroid/os/PowerManager$WakeLock;",
-    "V",
-    "wl",
-    "onReceive",
-    "VLL",
-    "Landroid/content/Context;",
-    "Landroid/content/Intent;",
-    "<init>",
-];
+const LOCK: &str = "Landroid/os/PowerManager$WakeLock;";
 
-// The class data at 438, padding, and the code items at 456 and 476.
-const CODE: [u8; 56] = [
-    1, 0, 1, 1, 0, 9, 0, 0x81, 0x80, 4, 0xc8, 3, 1, 1, 0xdc, 3, // 438
-    0, 0, //
-    1, 0, 1, 0, 0, 0, 0, 0, 0, 0, 0, 0, 1, 0, 0, 0, 0x0e, 0, 0, 0, // 456
-    3, 0, 3, 0, 0, 0, 0, 0, 0, 0, 0, 0, 1, 0, 0, 0, 0x0e, 0, // 476
-];
+const A: ClassForm = ClassForm {
+    kind: 0,
+    parent: None,
+    interfaces: &[],
+    method: None,
+};
 
-// Checksum and signature of the file as it is.
-const SUMS: [u8; 24] = [
-    230, 84, 215, 12, 157, 76, 60, 165, 248, 137, 104, 226, 144, 29, 29, 242, 111, 204, 90, 15,
-    150, 246, 58, 209,
-];
+const ONE: FileForm = FileForm {
+    texts: &["LA;", LOCK],
+    classes: &[A],
+    fields: 0,
+};
 
-// The file with these sums, and some bytes put elsewhere.
-fn file_with(alloc: Global, sums: &[u8; 24], puts: &[(usize, u8)]) -> Result<Vec<u8>, AllocError> {
-    let mut file = b"dex\n035\0".as_slice().to_vec(alloc)?;
-    file.extend_from_slice(sums)?;
-    for number in HEAD {
-        file.extend_from_slice(&number.to_le_bytes())?;
+fn texts_of(alloc: Global, texts: &[&str]) -> Result<Vec<Vec<u8>>, AllocError> {
+    let mut list = Vec::new(alloc);
+    for text in texts {
+        list.push(text.as_bytes().to_vec(alloc)?)?;
     }
-    file.extend_from_slice(&IDS)?;
-    file.extend_from_slice(&[2, 0, 0, 0, 4, 0, 5, 0])?;
-    for text in TEXTS {
-        file.push(text.len() as u8)?;
-        file.extend_from_slice(text.as_bytes())?;
-        file.push(0)?;
+    Ok(list)
+}
+
+fn methods_of(alloc: Global, method: Option<(u32, bool)>) -> Result<Vec<FileMethod>, AllocError> {
+    let mut list = Vec::new(alloc);
+    if let Some((flags, has_code)) = method {
+        let code = if has_code {
+            Some(FileCode {
+                ins: 0,
+                body: Body::new(0, Vec::new(alloc)),
+            })
+        } else {
+            None
+        };
+        list.push(FileMethod { id: 0, flags, code })?;
     }
-    file.extend_from_slice(&CODE)?;
-    for (at, byte) in puts {
-        if let Some(place) = file.get_mut(*at) {
-            *place = *byte;
+    Ok(list)
+}
+
+fn fields_of(alloc: Global, count: u32) -> Result<Vec<FileField>, AllocError> {
+    let mut list = Vec::new(alloc);
+    for _ in 0..count {
+        list.push(FileField { id: 0, flags: 8 })?;
+    }
+    Ok(list)
+}
+
+fn class_of(alloc: Global, form: ClassForm, fields: u32) -> Result<FileClass, AllocError> {
+    Ok(FileClass {
+        kind: form.kind,
+        flags: 1,
+        parent: form.parent,
+        interfaces: form.interfaces.to_vec(alloc)?,
+        statics: fields_of(alloc, fields)?,
+        instances: Vec::new(alloc),
+        directs: methods_of(alloc, form.method)?,
+        virtuals: Vec::new(alloc),
+    })
+}
+
+fn classes_of(alloc: Global, file: &FileForm) -> Result<Vec<FileClass>, AllocError> {
+    let mut list = Vec::new(alloc);
+    for class in file.classes {
+        list.push(class_of(alloc, *class, file.fields)?)?;
+    }
+    Ok(list)
+}
+
+fn types_of(alloc: Global, texts: &[&str]) -> Result<Vec<u32>, AllocError> {
+    let mut list = Vec::new(alloc);
+    let mut row: u32 = 0;
+    for _text in texts {
+        list.push(row)?;
+        row = row.saturating_add(1);
+    }
+    Ok(list)
+}
+
+fn file_of(alloc: Global, file: &FileForm) -> Result<FileParts, AllocError> {
+    let mut protos = Vec::new(alloc);
+    protos.push(FileProto {
+        shorty: 0,
+        result: 0,
+        params: Vec::new(alloc),
+    })?;
+    Ok(FileParts {
+        strings: texts_of(alloc, file.texts)?,
+        types: types_of(alloc, file.texts)?,
+        protos,
+        fields: vec![in alloc; FieldId {
+            class: 0,
+            kind: 1,
+            name: 0
+        }; 1]?,
+        methods: vec![in alloc; MethodId {
+            class: 0,
+            proto: 0,
+            name: 0
+        }; 1]?,
+        classes: classes_of(alloc, file)?,
+        units: 1,
+    })
+}
+
+fn files_of(alloc: Global, forms: &[FileForm]) -> Result<Vec<FileParts>, AllocError> {
+    let mut files = Vec::new(alloc);
+    for form in forms {
+        files.push(file_of(alloc, form)?)?;
+    }
+    Ok(files)
+}
+
+fn members_of(class: &FileClass) -> u128
+    ensures value { result ≡ members_of class.now }
+    ensures few { result ≤ 2 ^ 66 }
+{
+    class.statics.len() as u128
+        + class.instances.len() as u128
+        + class.directs.len() as u128
+        + class.virtuals.len() as u128
+}
+
+fn count_members(classes: &[FileClass]) -> u128
+    ensures { result ≡ sum_by members_of classes.now }
+{
+    let mut count = 0;
+    for c in 0..classes.len() {
+        count += members_of(&classes[c]);
+    }
+    count
+}
+
+fn is_small(file: &FileParts) -> bool
+    ensures { IsTrue result → IsSmall file.now }
+{
+    let tables = file.strings.len() <= 8_388_608
+        && file.types.len() <= 8_388_608
+        && file.protos.len() <= 8_388_608
+        && file.fields.len() <= 8_388_608
+        && file.methods.len() <= 8_388_608
+        && file.classes.len() <= 8_388_608;
+    tables && count_members(&file.classes) <= 1_048_576
+}
+
+fn are_small(files: &[FileParts]) -> bool
+    ensures { IsTrue result → AreSmall files.now }
+{
+    if files.len() > 16 {
+        return false;
+    }
+    for n in 0..files.len() {
+        if !is_small(&files[n]) {
+            return false;
         }
     }
-    Ok(file)
+    true
 }
 
-const PROTOS: [(u32, u32, &[u16]); 2] = [(6, 3, &[4, 5]), (3, 3, &[])];
-
-const fn method(class: u16, proto: u16, name: u32) -> MethodId {
-    MethodId { class, proto, name }
-}
-
-fn read(alloc: Global, sums: &[u8; 24], puts: &[(usize, u8)]) -> Result<FileParts, FileFault> {
-    let file = file_with(alloc, sums, puts)?;
-    if file.len() > 0xffff_ffff {
-        return Err(FileFault::Memory);
+fn link_forms(alloc: Global, forms: &[FileForm]) -> Result<App, LinkFault> {
+    let files = files_of(alloc, forms)?;
+    if !are_small(&files) {
+        return Err(LinkFault::Memory);
     }
-    let DexParts { parts } = read_dex(alloc, &file)?;
-    Ok(parts)
+    link_parts(alloc, files)
 }
 
-#[test]
-fn the_tables_are_read_back(rt: HostRuntime) -> Result<(), Fail> {
-    let parts = read(rt.alloc(), &SUMS, &[])
-        .ok()
-        .ok_or("the file is sound")?;
-    assert_eq!(rt; parts.strings.len(), TEXTS.len());
-    for (string, text) in parts.strings.iter().zip(TEXTS) {
-        assert_eq!(rt; string.as_slice(), text.as_bytes());
-    }
-    assert_eq!(rt; parts.types.as_slice(), [0, 1, 2, 3, 7, 8].as_slice());
-    assert_eq!(rt; parts.protos.len(), PROTOS.len());
-    for (proto, (shorty, result, params)) in parts.protos.iter().zip(PROTOS) {
-        assert_eq!(rt; (proto.shorty, proto.result), (shorty, result));
-        assert_eq!(rt; proto.params.as_slice(), params);
-    }
-    let field = FieldId {
-        class: 0,
-        kind: 2,
-        name: 4,
-    };
-    assert_eq!(rt; parts.fields.as_slice(), [field].as_slice());
-    let methods = [method(0, 1, 9), method(0, 0, 5), method(1, 1, 9)];
-    assert_eq!(rt; parts.methods.as_slice(), methods.as_slice());
-    assert_eq!(rt; parts.units, 2);
-    Ok(())
-}
-
-#[test]
-fn the_class_is_read_back(rt: HostRuntime) -> Result<(), Fail> {
-    let parts = read(rt.alloc(), &SUMS, &[])
-        .ok()
-        .ok_or("the file is sound")?;
-    let class = parts.classes.first().ok_or("there is a class")?;
-    assert_eq!(rt; (class.kind, class.flags, class.parent), (0, 1, Some(1)));
-    assert!(rt; class.interfaces.is_empty() && class.instances.is_empty());
-    let field = class.statics.first().ok_or("it has a static field")?;
-    assert_eq!(rt; (field.id, field.flags), (0, 9));
-    let init = class.directs.first().ok_or("it has a direct method")?;
-    assert_eq!(rt; (init.id, init.flags), (0, 0x10001));
-    let method = class.virtuals.first().ok_or("it has a virtual method")?;
-    assert_eq!(rt; (method.id, method.flags), (1, 1));
-    let code = method.code.as_ref().ok_or("it has code")?;
-    assert_eq!(rt;
-        (code.ins, code.body.registers(), code.body.len()),
-        (3, 3, 1)
-    );
-    Ok(())
-}
-
-// Bytes put elsewhere, the sums of the file with them, and its first fault.
-const FAULTS: [([u8; 24], &[(usize, u8)], FileFault); 10] = [
+// Files, and their first fault.
+const FAULTS: [(&[FileForm], LinkFault); 7] = [
+    (&[ONE, ONE], LinkFault::DuplicateClass(1, 0, 0)),
+    // A method that is neither abstract nor native, without code.
     (
-        [
-            230, 84, 215, 12, 157, 76, 60, 165, 248, 137, 104, 226, 144, 29, 29, 242, 111, 204, 90,
-            15, 150, 246, 58, 209,
+        &[
+            ONE,
+            FileForm {
+                texts: &["LB;", LOCK],
+                classes: &[ClassForm {
+                    method: Some((9, false)),
+                    ..A
+                }],
+                fields: 0,
+            },
         ],
-        &[(493, 1)],
-        FileFault::Dex(DexFault::Checksum),
+        LinkFault::CodeMissing(1, 0),
     ),
+    // An abstract one with code.
     (
-        [
-            229, 84, 245, 10, 156, 76, 60, 165, 248, 137, 104, 226, 144, 29, 29, 242, 111, 204, 90,
-            15, 150, 246, 58, 209,
-        ],
-        &[(12, 156)],
-        FileFault::Dex(DexFault::Signature),
+        &[FileForm {
+            classes: &[ClassForm {
+                method: Some((0x401, true)),
+                ..A
+            }],
+            ..ONE
+        }],
+        LinkFault::CodeUnwanted(0, 0),
     ),
+    // A native one with code.
     (
-        [
-            254, 81, 157, 91, 169, 173, 29, 57, 129, 135, 60, 22, 63, 108, 21, 20, 218, 79, 32,
-            164, 70, 111, 6, 242,
-        ],
-        &[(472, 62)],
-        FileFault::Code(0, CodeFault::BadOpcode(0, 62)),
+        &[FileForm {
+            classes: &[ClassForm {
+                method: Some((0x101, true)),
+                ..A
+            }],
+            ..ONE
+        }],
+        LinkFault::CodeUnwanted(0, 0),
     ),
+    // A class that is its own superclass.
     (
-        [
-            13, 86, 199, 209, 212, 145, 106, 34, 123, 222, 46, 104, 114, 246, 161, 179, 209, 117,
-            233, 43, 217, 23, 198, 215,
-        ],
-        &[(492, 62)],
-        FileFault::Code(1, CodeFault::BadOpcode(0, 62)),
+        &[FileForm {
+            classes: &[ClassForm {
+                parent: Some(0),
+                ..A
+            }],
+            ..ONE
+        }],
+        LinkFault::SuperCycle(0, 0),
     ),
+    // A cycle through interfaces over two files, with a class below it before.
     (
-        [
-            162, 85, 140, 191, 172, 212, 232, 30, 203, 233, 86, 80, 3, 215, 1, 6, 209, 183, 198,
-            196, 249, 36, 9, 239,
+        &[
+            FileForm {
+                texts: &["LA;", "LB;", "LC;"],
+                classes: &[
+                    ClassForm {
+                        kind: 2,
+                        parent: Some(0),
+                        ..A
+                    },
+                    ClassForm {
+                        interfaces: &[1],
+                        ..A
+                    },
+                ],
+                fields: 0,
+            },
+            FileForm {
+                texts: &["LA;", "LB;", "LD;"],
+                classes: &[
+                    ClassForm {
+                        kind: 2,
+                        parent: Some(1),
+                        ..A
+                    },
+                    ClassForm {
+                        kind: 1,
+                        interfaces: &[0],
+                        ..A
+                    },
+                ],
+                fields: 0,
+            },
         ],
-        &[(472, 62), (492, 62)],
-        FileFault::Code(0, CodeFault::BadOpcode(0, 62)),
+        LinkFault::SuperCycle(0, 1),
     ),
+    // 65 wake-lock fields.
     (
-        [
-            52, 85, 244, 159, 241, 238, 144, 193, 18, 104, 41, 226, 87, 16, 91, 240, 121, 78, 243,
-            170, 200, 73, 79, 174,
-        ],
-        &[(450, 2)],
-        FileFault::Dex(DexFault::MemberIndex(450)),
-    ),
-    (
-        [
-            119, 86, 223, 218, 80, 167, 225, 19, 70, 204, 19, 204, 198, 59, 145, 245, 231, 211,
-            190, 214, 100, 237, 26, 249,
-        ],
-        &[(451, 9)],
-        FileFault::Code(1, CodeFault::InsSize),
-    ),
-    (
-        [
-            158, 86, 226, 66, 227, 163, 168, 200, 235, 83, 225, 215, 102, 189, 165, 89, 105, 9,
-            216, 254, 106, 220, 73, 95,
-        ],
-        &[(478, 4)],
-        FileFault::Dex(DexFault::Registers(476)),
-    ),
-    (
-        [
-            8, 86, 192, 189, 68, 1, 102, 251, 101, 60, 173, 205, 190, 37, 92, 152, 148, 255, 85,
-            140, 237, 162, 236, 246,
-        ],
-        &[(472, 62), (478, 4)],
-        FileFault::Code(0, CodeFault::BadOpcode(0, 62)),
-    ),
-    (
-        [
-            26, 87, 53, 77, 87, 170, 190, 172, 240, 209, 73, 64, 90, 139, 176, 133, 255, 113, 206,
-            237, 236, 154, 109, 87,
-        ],
-        &[(453, 127)],
-        FileFault::Dex(DexFault::Short(16348)),
+        &[FileForm { fields: 65, ..ONE }],
+        LinkFault::Limit(Counted::Locks),
     ),
 ];
 
 #[test]
-fn the_first_fault_is_named(rt: HostRuntime) {
-    assert_eq!(rt;
-        read_dex(rt.alloc(), &[]).err(),
-        Some(FileFault::Dex(DexFault::Short(0)))
-    );
-    for (sums, puts, fault) in &FAULTS {
-        assert_eq!(rt;
-            read(rt.alloc(), sums, puts).err(),
-            Some(*fault),
-            "{puts:?}"
-        );
+fn the_first_fault_is_told(rt: HostRuntime) -> Result<(), Fail> {
+    for (forms, fault) in FAULTS {
+        assert_eq!(rt; link_forms(rt.alloc(), forms).err(), Some(fault));
     }
+    Ok(())
+}
+
+#[test]
+fn as_many_locks_as_there_may_be(rt: HostRuntime) -> Result<(), Fail> {
+    let app = link_forms(rt.alloc(), &[FileForm { fields: 64, ..ONE }])
+        .ok()
+        .ok_or("the file links")?;
+    assert_eq!(rt; app.locks().len(), 64);
+    assert_eq!(rt; app.field_count(), 64);
+    Ok(())
+}
+
+// The second file has its types in another order, and one of them is new.
+const TWO: [FileForm; 2] = [
+    FileForm {
+        texts: &["LA;", "LB;"],
+        classes: &[ClassForm { kind: 1, ..A }],
+        fields: 0,
+    },
+    FileForm {
+        texts: &["LC;", "LB;"],
+        classes: &[ClassForm {
+            kind: 0,
+            parent: Some(1),
+            method: Some((0x401, false)),
+            interfaces: &[],
+        }],
+        fields: 0,
+    },
+];
+
+#[test]
+fn types_have_first_seen_numbers(rt: HostRuntime) -> Result<(), Fail> {
+    let app = link_forms(rt.alloc(), &TWO).ok().ok_or("the files link")?;
+    assert_eq!(rt;
+        (app.type_count(), app.name_count(), app.proto_count()),
+        (3, 3, 2)
+    );
+    assert_eq!(rt; app.type_text(TypeNo(2)), b"LC;".as_slice());
+    assert_eq!(rt; app.class_text(ClassNo(0)), b"LB;".as_slice());
+    assert_eq!(rt; app.class_text(ClassNo(1)), b"LC;".as_slice());
+    if app.class_count() != 2 || app.method_count() != 1 {
+        return Err("two classes and one method".into());
+    }
+    assert_eq!(rt; app.class(ClassNo(1)).parent, Some(TypeNo(1)));
+    assert_eq!(rt; app.method(MethodNo(0)).class, ClassNo(1));
+    assert_eq!(rt; app.code_len(MethodNo(0)), 0);
+    Ok(())
+}
+
+// A below B; C and D above each other; E its own superclass; F below D.
+const RANKED: FileForm = FileForm {
+    texts: &["LA;", "LB;", "LC;", "LD;", "LE;", "LF;"],
+    classes: &[
+        ClassForm {
+            parent: Some(1),
+            ..A
+        },
+        ClassForm { kind: 1, ..A },
+        ClassForm {
+            kind: 2,
+            interfaces: &[3],
+            ..A
+        },
+        ClassForm {
+            kind: 3,
+            parent: Some(2),
+            ..A
+        },
+        ClassForm {
+            kind: 4,
+            parent: Some(4),
+            ..A
+        },
+        ClassForm {
+            kind: 5,
+            parent: Some(3),
+            ..A
+        },
+    ],
+    fields: 0,
+};
+
+fn rows_of(alloc: Global, form: &FileForm) -> Result<Vec<ClassRow>, AllocError> {
+    let mut rows = Vec::new(alloc);
+    for class in form.classes {
+        let mut interfaces = Vec::new(alloc);
+        for kind in class.interfaces {
+            interfaces.push(TypeNo(u32::from(*kind)))?;
+        }
+        rows.push(ClassRow {
+            name: TypeNo(class.kind),
+            parent: match class.parent {
+                Some(kind) => Some(TypeNo(kind)),
+                None => None,
+            },
+            interfaces,
+            flags: 1,
+        })?;
+    }
+    Ok(rows)
+}
+
+#[test]
+fn odd_ranks_tell_cycles(rt: HostRuntime) -> Result<(), Fail> {
+    let rows = rows_of(rt.alloc(), &RANKED)?;
+    if rows.len() > 100 {
+        return Err("six rows".into());
+    }
+    let ranks = rank_types(rt.alloc(), &rows)?;
+    assert_eq!(rt; ranks.as_slice(), [4, 2, 7, 7, 9, 10].as_slice());
+    Ok(())
 }

@@ -8,3 +8,7 @@ pub mod LockUse
 pub mod Slots
 pub mod Subtypes
 pub mod Components
+pub mod Access
+pub mod Calls
+pub mod Ancestors
+pub mod Sound

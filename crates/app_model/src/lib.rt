@@ -3,7 +3,7 @@
 //! - `ins` has the instructions.
 //! - `few` is a short list of numbers that mostly takes no heap.
 //! - `body` has the places of a method's code: each instruction with where control can go from it.
-//! - `opcode` names the opcodes.
+//! - `opcode` names the opcodes, `access` the access flags.
 //! - `rows` and `app` are the linked application, read through accessors.
 //! - `names` spells types, names and prototypes.
 //! - `lock_use` and `slots` tell calls and fields of wake locks apart from others.
@@ -11,6 +11,7 @@
 //! - `tag` is what is known of a register's value.
 #![tactic(auto)]
 
+pub mod access;
 mod app;
 mod body;
 mod component;

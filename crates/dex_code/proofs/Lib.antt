@@ -1,10 +1,10 @@
 pub mod CodeLaw
 pub mod CodeReads
 pub mod Entries
+pub mod Firsts
 pub mod HandlerLists
 pub mod Lebs
 pub mod MembersLaw
-pub mod Names
 pub mod Ranges
 pub mod Sorted
 pub mod Steps

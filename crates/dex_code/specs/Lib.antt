@@ -1,3 +1,4 @@
+pub mod Alike
 pub mod ClassData
 pub mod CodeItem
 pub mod Content

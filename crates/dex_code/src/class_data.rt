@@ -2,19 +2,21 @@
 ghost use Rattle.std.specs.Prelude.{◌≡◌, ℕ, ◌↔◌, List, Ok, ◌+◌, ◌^◌, ◌≤◌, ◌<◌, length, vec_len, IfOk, OnOk, MatchOption, false, true};
 ghost use Rattle.std.specs.Str.{bytes_eq};
 ghost use Rattle.dex_tables.specs.Content.{AreTablesOf};
-ghost use Rattle.dex_tables.specs.Rows.{class_count, string_count, string_text, type_count, type_name};
+ghost use Rattle.dex_tables.specs.Rows.{class_count, type_count, type_name};
 ghost use Rattle.dex_tables.specs.Reading.{IsReading};
+ghost use Rattle.dex_code.specs.Alike.{AreKeptNumbers};
 ghost use Rattle.dex_code.specs.ClassData.{row_count, row_class};
 ghost use Rattle.dex_code.specs.Content.{AreMembersOf, MemberLists};
 ghost use Rattle.dex_tables.specs.Reading.{Gives};
 ghost use Rattle.dex_code.specs.Reading.{last_id, index_after, repeats, is_of_class, is_own, code_offset_at, entry_at, with_entry, entries_at, class_data_at, members_at};
 
+use crate::alike::TextNumbers;
 use crate::members::{ClassMembers, Member};
 use crate::numbers::uleb_from;
 use dex_bytes::{DexFault, header_from};
-use dex_tables::{Stop, Tables, string_bytes};
+use dex_tables::{Stop, Tables};
 use ns_base::{Counted, limit};
-use std::alloc::Global;
+use std::alloc::{AllocError, Global};
 
 /// The table that an entry of class data names a row of.
 #[derive(Clone, Copy)]
@@ -49,7 +51,27 @@ pub fn read_class_members(
     ensures exact { IsReading result (members_at bytes.now class) }
     ensures content { IfOk result (λ members. AreMembersOf bytes.now class members) }
 {
-    match read_members(alloc, bytes, tables, class) {
+    let mut numbers = TextNumbers::new(alloc);
+    read_class_members_with(alloc, bytes, tables, &mut numbers, class)
+}
+
+/// The same for one of many classes of a file, which share the numbers of its strings.
+pub fn read_class_members_with(
+    alloc: Global,
+    bytes: &[u8],
+    tables: &Tables,
+    numbers: &mut TextNumbers,
+    class: u32,
+) -> Result<ClassMembers, DexFault>
+    requires tables { AreTablesOf bytes.now tables.now }
+    requires len { length bytes.now ≤ 4294967295 }
+    requires row { class < class_count bytes.now }
+    requires numbers { AreKeptNumbers bytes.now numbers.old }
+    ensures exact { IsReading result (members_at bytes.now class) }
+    ensures content { IfOk result (λ members. AreMembersOf bytes.now class members) }
+    ensures numbers { AreKeptNumbers bytes.now numbers.new }
+{
+    match read_members(alloc, bytes, tables, numbers, class) {
         Ok(members) => Ok(members),
         Err(Stop::Fault(fault)) => Err(fault),
         Err(Stop::Memory) => Err(DexFault::Memory),
@@ -66,11 +88,14 @@ fn read_members(
     alloc: Global,
     bytes: &[u8],
     tables: &Tables,
+    numbers: &mut TextNumbers,
     class: u32,
 ) -> Result<ClassMembers, Stop>
     requires tables { AreTablesOf bytes.now tables.now }
     requires row { class < class_count bytes.now }
-    ensures { Gives (λ m. m) result (members_at bytes.now class) }
+    requires numbers { AreKeptNumbers bytes.now numbers.old }
+    ensures members { Gives (λ m. m) result (members_at bytes.now class) }
+    ensures numbers { AreKeptNumbers bytes.now numbers.new }
 {
     let off = tables.classes[class as usize].members;
     if off == 0 {
@@ -81,7 +106,7 @@ fn read_members(
             virtuals: Vec::new(alloc),
         });
     }
-    read_class_data(alloc, bytes, tables, class, off as usize)
+    read_class_data(alloc, bytes, tables, numbers, class, off as usize)
 }
 
 #[tactic(auto, unfolding(crate::specs::Reading::class_data_at))]
@@ -89,12 +114,15 @@ fn read_class_data(
     alloc: Global,
     bytes: &[u8],
     tables: &Tables,
+    numbers: &mut TextNumbers,
     class: u32,
     at: usize,
 ) -> Result<ClassMembers, Stop>
     requires tables { AreTablesOf bytes.now tables.now }
     requires row { class < class_count bytes.now }
-    ensures { Gives (λ m. m) result (class_data_at bytes.now class at) }
+    requires numbers { AreKeptNumbers bytes.now numbers.old }
+    ensures members { Gives (λ m. m) result (class_data_at bytes.now class at) }
+    ensures numbers { AreKeptNumbers bytes.now numbers.new }
 {
     let (static_count, at) = uleb_from(bytes, at)?;
     let (instance_count, at) = uleb_from(bytes, at)?;
@@ -106,17 +134,17 @@ fn read_class_data(
         before: 0,
         count: static_count,
     };
-    let (statics, at) = read_entries(alloc, bytes, tables, wanted, at)?;
+    let (statics, at) = read_entries(alloc, bytes, tables, numbers, wanted, at)?;
     wanted.before += u64::from(static_count);
     wanted.count = instance_count;
-    let (instances, at) = read_entries(alloc, bytes, tables, wanted, at)?;
+    let (instances, at) = read_entries(alloc, bytes, tables, numbers, wanted, at)?;
     wanted.kind = Kind::Method;
     wanted.before += u64::from(instance_count);
     wanted.count = direct_count;
-    let (directs, at) = read_entries(alloc, bytes, tables, wanted, at)?;
+    let (directs, at) = read_entries(alloc, bytes, tables, numbers, wanted, at)?;
     wanted.before += u64::from(direct_count);
     wanted.count = virtual_count;
-    let (virtuals, _) = read_entries(alloc, bytes, tables, wanted, at)?;
+    let (virtuals, _) = read_entries(alloc, bytes, tables, numbers, wanted, at)?;
     Ok(ClassMembers {
         statics,
         instances,
@@ -130,18 +158,21 @@ fn read_entries(
     alloc: Global,
     bytes: &[u8],
     tables: &Tables,
+    numbers: &mut TextNumbers,
     wanted: Wanted,
     at: usize,
 ) -> Result<(Vec<Member>, usize), Stop>
     requires tables { AreTablesOf bytes.now tables.now }
     requires row { wanted.class < class_count bytes.now }
     requires room { wanted.before < 2 ^ 34 }
-    ensures { Gives (λ r. record { place = r.1; members = r.0.items }) result (entries_at bytes.now wanted.class wanted.kind wanted.before at wanted.count) }
+    requires numbers { AreKeptNumbers bytes.now numbers.old }
+    ensures entries { Gives (λ r. record { place = r.1; members = r.0.items }) result (entries_at bytes.now wanted.class wanted.kind wanted.before at wanted.count) }
+    ensures numbers { AreKeptNumbers bytes.now numbers.new }
 {
     let mut members = Vec::new(alloc);
     let mut end = at;
     for i in 0..wanted.count {
-        end = add_entry(bytes, tables, wanted, end, &mut members)?;
+        end = add_entry(alloc, bytes, tables, numbers, wanted, end, &mut members)?;
     }
     Ok((members, end))
 }
@@ -149,8 +180,10 @@ fn read_entries(
 // One entry more, and the place after it.
 #[tactic(auto, unfolding(crate::specs::Reading::with_entry))]
 fn add_entry(
+    alloc: Global,
     bytes: &[u8],
     tables: &Tables,
+    numbers: &mut TextNumbers,
     wanted: Wanted,
     at: usize,
     members: &mut Vec<Member>,
@@ -158,10 +191,13 @@ fn add_entry(
     requires tables { AreTablesOf bytes.now tables.now }
     requires row { wanted.class < class_count bytes.now }
     requires room { (wanted.before < 2 ^ 34) × (vec_len members.old < 2 ^ 32) }
+    requires numbers { AreKeptNumbers bytes.now numbers.old }
     ensures len { OnOk result (vec_len members.new ≡ vec_len members.old + 1) }
     ensures entry { Gives (λ end. record { place = end; members = members.new.items }) result (with_entry bytes.now wanted.class wanted.kind wanted.before (record { place = at; members = members.old.items })) }
+    ensures numbers { AreKeptNumbers bytes.now numbers.new }
 {
-    let (member, end) = entry_from(bytes, tables, wanted, last_id_of(members), at)?;
+    let prior = last_id_of(members);
+    let (member, end) = entry_from(alloc, bytes, tables, numbers, wanted, prior, at)?;
     if wanted.before + members.len() as u64 + 1 > limit(Counted::Members) {
         return Err(Stop::Fault(DexFault::Limit(Counted::Members)));
     }
@@ -178,22 +214,26 @@ fn last_id_of(members: &[Member]) -> Option<u32>
 // The entry at a place, where the member before it has this index, and the place after it.
 #[tactic(auto, unfolding(crate::specs::Reading::entry_at))]
 fn entry_from(
+    alloc: Global,
     bytes: &[u8],
     tables: &Tables,
+    numbers: &mut TextNumbers,
     wanted: Wanted,
     prior: Option<u32>,
     at: usize,
-) -> Result<(Member, usize), DexFault>
+) -> Result<(Member, usize), Stop>
     requires tables { AreTablesOf bytes.now tables.now }
     requires row { wanted.class < class_count bytes.now }
-    ensures { result ≡ entry_at bytes.now wanted.class wanted.kind prior at }
+    requires numbers { AreKeptNumbers bytes.now numbers.old }
+    ensures entry { Gives (λ e. e) result (entry_at bytes.now wanted.class wanted.kind prior at) }
+    ensures numbers { AreKeptNumbers bytes.now numbers.new }
 {
     let (difference, flags_at) = uleb_from(bytes, at)?;
     let (flags, code_at) = uleb_from(bytes, flags_at)?;
     let (code, end) = code_offset_from(bytes, wanted.kind, code_at)?;
-    match own_index(bytes, tables, wanted, prior, difference) {
+    match own_index(alloc, bytes, tables, numbers, wanted, prior, difference)? {
         Some(id) => Ok((Member { id, flags, code }, end)),
-        None => Err(DexFault::MemberIndex(at)),
+        None => Err(Stop::Fault(DexFault::MemberIndex(at))),
     }
 }
 
@@ -208,27 +248,31 @@ fn code_offset_from(bytes: &[u8], kind: Kind, at: usize) -> Result<(u32, usize),
 
 // The index of the next member, where the class may have it.
 fn own_index(
+    alloc: Global,
     bytes: &[u8],
     tables: &Tables,
+    numbers: &mut TextNumbers,
     wanted: Wanted,
     prior: Option<u32>,
     difference: u32,
-) -> Option<u32>
+) -> Result<Option<u32>, AllocError>
     requires tables { AreTablesOf bytes.now tables.now }
     requires row { wanted.class < class_count bytes.now }
-    ensures { MatchOption result
+    requires numbers { AreKeptNumbers bytes.now numbers.old }
+    ensures own { IfOk result (λ own. MatchOption own
         (is_own bytes.now wanted.class wanted.kind prior difference ≡ false)
-        (λ id. (is_own bytes.now wanted.class wanted.kind prior difference ≡ true) × (id ≡ index_after prior difference)) }
+        (λ id. (is_own bytes.now wanted.class wanted.kind prior difference ≡ true) × (id ≡ index_after prior difference))) }
+    ensures numbers { AreKeptNumbers bytes.now numbers.new }
 {
     let index = next_index(prior, difference);
     if index >= u64::from(rows_of(bytes, wanted.kind)) || is_repeated(prior, difference) {
-        return None;
+        return Ok(None);
     }
     let id = index as u32;
-    if is_of(bytes, tables, wanted, id) {
-        Some(id)
+    if is_of(alloc, bytes, tables, numbers, wanted, id)? {
+        Ok(Some(id))
     } else {
-        None
+        Ok(None)
     }
 }
 
@@ -264,19 +308,24 @@ fn rows_of(bytes: &[u8], kind: Kind) -> u32
 
 // A row of the table is of the class.
 #[tactic(auto, unfolding(crate::specs::Reading::is_of_class))]
-fn is_of(bytes: &[u8], tables: &Tables, wanted: Wanted, id: u32) -> bool
+fn is_of(
+    alloc: Global,
+    bytes: &[u8],
+    tables: &Tables,
+    numbers: &mut TextNumbers,
+    wanted: Wanted,
+    id: u32,
+) -> Result<bool, AllocError>
     requires tables { AreTablesOf bytes.now tables.now }
     requires row { wanted.class < class_count bytes.now }
     requires id { id < row_count bytes.now wanted.kind }
-    ensures { result ≡ is_of_class bytes.now wanted.class wanted.kind id }
+    requires numbers { AreKeptNumbers bytes.now numbers.old }
+    ensures own { IfOk result (λ own. own ≡ is_of_class bytes.now wanted.class wanted.kind id) }
+    ensures numbers { AreKeptNumbers bytes.now numbers.new }
 {
     let class = tables.classes[wanted.class as usize].class;
-    have_one_name(
-        bytes,
-        tables,
-        class_of(bytes, tables, wanted.kind, id),
-        class,
-    )
+    let owner = class_of(bytes, tables, wanted.kind, id);
+    have_one_name(alloc, bytes, tables, numbers, owner, class)
 }
 
 fn class_of(bytes: &[u8], tables: &Tables, kind: Kind, id: u32) -> u32
@@ -291,29 +340,24 @@ fn class_of(bytes: &[u8], tables: &Tables, kind: Kind, id: u32) -> u32
     }
 }
 
-// Two types have one name. Names are compared only where the numbers do not tell.
-#[tactic(auto, using(crate::proofs::Names::same_text), unfolding(dex_tables::specs::Rows::type_name))]
-fn have_one_name(bytes: &[u8], tables: &Tables, first: u32, second: u32) -> bool
+// Two types have one name, by the bytes of their strings.
+#[tactic(auto, unfolding(dex_tables::specs::Rows::type_name))]
+fn have_one_name(
+    alloc: Global,
+    bytes: &[u8],
+    tables: &Tables,
+    numbers: &mut TextNumbers,
+    first: u32,
+    second: u32,
+) -> Result<bool, AllocError>
     requires tables { AreTablesOf bytes.now tables.now }
     requires first { first < type_count bytes.now }
     requires second { second < type_count bytes.now }
-    ensures { result ≡ bytes_eq (type_name bytes.now first) (type_name bytes.now second) }
+    requires numbers { AreKeptNumbers bytes.now numbers.old }
+    ensures same { IfOk result (λ same. same ≡ bytes_eq (type_name bytes.now first) (type_name bytes.now second)) }
+    ensures numbers { AreKeptNumbers bytes.now numbers.new }
 {
     let string = tables.types[first as usize];
     let other = tables.types[second as usize];
-    if string == other {
-        return true;
-    }
-    text_of(bytes, tables, string) == text_of(bytes, tables, other)
-}
-
-fn text_of<'a>(bytes: &'a [u8], tables: &Tables, string: u32) -> &'a [u8]
-    requires tables { AreTablesOf bytes.now tables.now }
-    requires row { string < string_count bytes.now }
-    ensures { result.now ≡ string_text bytes.now string }
-{
-    match string_bytes(bytes, tables, string) {
-        Some(text) => text,
-        None => unreachable!(),
-    }
+    numbers.are_alike(alloc, bytes, tables, string, other)
 }

@@ -5,6 +5,7 @@
 //! in which order they are read.
 #![tactic(auto)]
 
+mod alike;
 mod class_data;
 mod code;
 mod code_item;
@@ -16,7 +17,8 @@ mod numbers;
 mod tests;
 mod tries;
 
-pub use class_data::{members_law, read_class_members};
+pub use alike::TextNumbers;
+pub use class_data::{members_law, read_class_members, read_class_members_with};
 pub use code::{CodeItem, Handler, TryRow};
 pub use code_item::{code_law, read_code};
 pub use members::{ClassMembers, Member};

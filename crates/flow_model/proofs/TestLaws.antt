@@ -11,6 +11,11 @@ pub and_join : (a b : Bool) → a ≡ true → b ≡ true → (a && b) ≡ true
 and_join true b h k = k
 and_join false b h k = h
 
+pub bool_same : (a b : Bool) → (a ≡ true → b ≡ true) → (b ≡ true → a ≡ true) → a ≡ b
+bool_same true b f g = sym (f refl)
+bool_same false true f g = g refl
+bool_same false false f g = refl
+
 pub either : (a b : Bool) → (a || b) ≡ true → (a ≡ true) ⊎ (b ≡ true)
 either true b h = inl refl
 either false b h = inr h

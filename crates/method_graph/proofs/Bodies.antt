@@ -449,7 +449,7 @@ piece_one (Whole ins next) = omega arith
 piece_one (Payload ident next) = omega arith
 piece_one (Broken fault) = omega arith
 
-count_few : (rows : List Row) → instruction_count rows ≤ length rows
+pub count_few : (rows : List Row) → instruction_count rows ≤ length rows
 count_few [] = omega arith
 count_few (row ∷ rows) = let more = count_few rows in let one = piece_one row.piece in omega arith
 

@@ -9,3 +9,4 @@ pub mod Ranges
 pub mod Rest
 pub mod Rising
 pub mod Table
+pub mod SoundGraph

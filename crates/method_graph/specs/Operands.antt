@@ -1,12 +1,10 @@
 -- What an instruction names in the id tables, and how many registers arguments take.
-use Rattle.std.specs.Prelude.{ℕ, ◌≡◌, ◌<◌, ◌^◌, ◌+◌, ◌==◌, nat_lt, ◌&&◌, ◌||◌, Bool, true, List, length, slice_index, if◌then◌else◌, Option, Some, None}
+use Rattle.std.specs.Prelude.{ℕ, ◌≡◌, ◌<◌, ◌^◌, ◌+◌, ◌==◌, nat_lt, Bool, true, List, if◌then◌else◌, Option, Some, None}
 use Rattle.std.specs.BTreeMap.{BTreeMap, get}
 use Rattle.std.specs.Ordering.{nat_cmp}
 use Rattle.app_model.specs.declared.ins.Ins.{Ins}
 use Rattle.app_model.specs.declared.ins.Ins.TheVariants as ins
-use Rattle.app_model.specs.declared.ins.Args.{Args}
-use Rattle.app_model.specs.declared.ins.Args.TheVariants as args
-use Rattle.app_model.specs.declared.opcode.TheConstants.{INVOKE_STATIC, INVOKE_STATIC_RANGE}
+use Rattle.app_model.specs.Calls.{args_len, is_static_call, words_of}
 use Rattle.dex_tables.specs.Rows.{string_count, type_count, field_count, method_count, type_name, proto_params, method_proto, list_size, list_entry}
 use Rattle.dex_tables.specs.Sound.{sum_below}
 use Rattle.method_graph.specs.declared.operands.Named.{Named}
@@ -39,12 +37,6 @@ past_table bs (Kind i) = unless_below (type_count bs) i
 past_table bs (Field i) = unless_below (field_count bs) i
 past_table bs (Method i) = unless_below (method_count bs) i
 
--- how many registers a value of a type takes: two where its name begins with J or D, none for V, else one
-abbrev pub words_of : List ℕ → ℕ
-words_of name =
-    if length name == 1 && slice_index name 0 == 86 then 0
-    else (if slice_index name 0 == 74 || slice_index name 0 == 68 then 2 else 1)
-
 -- the type of parameter k of a prototype
 abbrev pub param_type : List ℕ → ℕ → ℕ → ℕ
 param_type bs proto k = list_entry bs (proto_params bs proto) k
@@ -63,13 +55,6 @@ AreSums bs sums = (proto words : ℕ) → get nat_cmp sums proto ≡ Some words 
 -- how many registers the arguments of a method take, with its receiver where it has one
 abbrev pub argument_words : List ℕ → Bool → ℕ → ℕ
 argument_words bs static method = (if static then 0 else 1) + params_words bs (method_proto bs method)
-
-abbrev pub is_static_call : ℕ → Bool
-is_static_call op = op == INVOKE_STATIC || op == INVOKE_STATIC_RANGE
-
-abbrev pub args_len : Args → ℕ
-args_len (args.List count registers) = count
-args_len (args.Range first count) = count
 
 -- whether a call names as many registers as the arguments of its method take
 abbrev pub has_its_args : List ℕ → Ins → Bool

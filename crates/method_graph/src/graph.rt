@@ -13,18 +13,15 @@ ghost use Rattle.method_graph.specs.Sweep.{IsSweep};
 ghost use Rattle.method_graph.specs.Tries.{AreTries, IsPast, bad_target, try_at};
 
 use crate::flow::find_successors;
-use crate::operands::{Sums, find_arguments, fits_args, past_operand};
+use crate::operands::{ParamSums, find_arguments, fits_args, past_operand};
 use crate::registers::past_named;
 use crate::sweep::{Found, Piece, Row, Sweep, sweep_units};
 use crate::tries::{advance, find_bad_target, find_handlers, find_try, leaves_from, take_handlers};
-use app_model::{Body, Ins, Place};
+use app_model::{Body, Ins, Place, access};
 use dalvik_decode::CodeFault;
 use dex_code::{CodeItem, TryRow};
 use dex_tables::Tables;
 use std::alloc::{AllocError, Global};
-
-/// Access flag of methods without a receiver.
-const STATIC: u32 = 0x8;
 
 /// An instruction with its successors and its possible handlers, or its first fault.
 #[tactic(auto, unfolding(crate::specs::Graph::place_at))]
@@ -34,7 +31,7 @@ fn make_place(
     tables: &Tables,
     code: &CodeItem,
     sweep: &Sweep,
-    sums: &mut Sums,
+    sums: &mut ParamSums,
     row: Option<TryRow>,
     pc: u32,
     next: u32,
@@ -84,7 +81,7 @@ fn put_row(
     tables: &Tables,
     code: &CodeItem,
     sweep: &Sweep,
-    sums: &mut Sums,
+    sums: &mut ParamSums,
     covering: Option<TryRow>,
     row: Row,
     places: &mut Vec<Place>,
@@ -124,7 +121,7 @@ fn make_places(
     tables: &Tables,
     code: &CodeItem,
     sweep: &Sweep,
-    sums: &mut Sums,
+    sums: &mut ParamSums,
 ) -> Result<Vec<Place>, CodeFault>
     requires tables { AreTablesOf bytes.now tables.now }
     requires tries { AreTries bytes.now code.now.tries code.now.handlers }
@@ -133,6 +130,7 @@ fn make_places(
     requires sums { AreSums bytes.now sums.old }
     ensures places { IfOk result (λ places. places_of bytes.now code.now sweep.now.rows sweep.now.rows ≡ Ok places.items) }
     ensures fault { IfErr result (λ fault. fault ≢ Memory → places_of bytes.now code.now sweep.now.rows sweep.now.rows ≡ Err fault) }
+    ensures sums { AreSums bytes.now sums.new }
 {
     let rows = sweep.rows();
     let mut places = Vec::with_capacity(alloc, rows.len())?;
@@ -192,7 +190,7 @@ fn make_body(
     tables: &Tables,
     code: &CodeItem,
     sweep: &Sweep,
-    sums: &mut Sums,
+    sums: &mut ParamSums,
 ) -> Result<Body, CodeFault>
     requires tables { AreTablesOf bytes.now tables.now }
     requires tries { AreTries bytes.now code.now.tries code.now.handlers }
@@ -200,7 +198,8 @@ fn make_body(
     requires size { length code.now.units ≤ 4194304 }
     requires handlers { length code.now.handlers ≤ 4194304 }
     requires sums { AreSums bytes.now sums.old }
-    ensures { IsExact result (body_of code.now.registers (with_target (bad_target sweep.now.rows None code.now.handlers) (places_of bytes.now code.now sweep.now.rows sweep.now.rows))) }
+    ensures body { IsExact result (body_of code.now.registers (with_target (bad_target sweep.now.rows None code.now.handlers) (places_of bytes.now code.now sweep.now.rows sweep.now.rows))) }
+    ensures sums { AreSums bytes.now sums.new }
 {
     let target = find_bad_target(sweep, code.handlers.as_slice());
     let places = match make_places(alloc, bytes, tables, code, sweep, sums) {
@@ -215,7 +214,6 @@ fn make_body(
 
 /// The body of a method with these access flags. The first fault is given: by pc, and at one pc in the
 /// order of `CodeFault`. A handler's target is the pc of its own fault, and `InsSize` comes before all.
-#[tactic(auto, unfolding(crate::specs::Graph::graph_by))]
 pub fn build_graph(
     alloc: Global,
     bytes: &[u8],
@@ -230,8 +228,30 @@ pub fn build_graph(
     requires row { method < method_count bytes.now }
     ensures { IsExact result (graph_of bytes.now method flags code.now) }
 {
-    let mut sums = Sums::new(alloc);
-    let arguments = find_arguments(bytes, tables, &mut sums, flags & STATIC != 0, method)?;
+    let mut sums = ParamSums::new(alloc);
+    build_graph_with(alloc, bytes, tables, &mut sums, method, flags, code)
+}
+
+/// The same for one of many methods of a file, which share what was summed of their prototypes.
+#[tactic(auto, unfolding(crate::specs::Graph::graph_by))]
+pub fn build_graph_with(
+    alloc: Global,
+    bytes: &[u8],
+    tables: &Tables,
+    sums: &mut ParamSums,
+    method: u32,
+    flags: u32,
+    code: &CodeItem,
+) -> Result<Body, CodeFault>
+    requires tables { AreTablesOf bytes.now tables.now }
+    requires code { IsCodeIn bytes.now code.now }
+    requires len { length bytes.now ≤ 4294967295 }
+    requires row { method < method_count bytes.now }
+    requires sums { AreSums bytes.now sums.old }
+    ensures graph { IsExact result (graph_of bytes.now method flags code.now) }
+    ensures sums { AreSums bytes.now sums.new }
+{
+    let arguments = find_arguments(bytes, tables, sums, flags & access::STATIC != 0, method)?;
     if code.ins as u64 != arguments {
         return Err(CodeFault::InsSize);
     }
@@ -239,5 +259,5 @@ pub fn build_graph(
     let Found::Start(_) = sweep.find(0) else {
         return Err(CodeFault::FallsOff(0));
     };
-    make_body(alloc, bytes, tables, code, &sweep, &mut sums)
+    make_body(alloc, bytes, tables, code, &sweep, sums)
 }

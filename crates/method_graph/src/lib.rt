@@ -5,7 +5,7 @@
 //! - `registers` and `operands` check what an instruction names.
 //! - `flow` says where control goes from an instruction.
 //! - `tries` finds the handlers that a throw can come to.
-//! - `graph` joins these: `build_graph`.
+//! - `graph` joins these: `build_graph`, and `build_graph_with` for many methods of one file.
 #![tactic(auto)]
 
 mod flow;
@@ -17,4 +17,5 @@ mod sweep;
 mod tests;
 mod tries;
 
-pub use graph::build_graph;
+pub use graph::{build_graph, build_graph_with};
+pub use operands::ParamSums;

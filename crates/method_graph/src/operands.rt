@@ -2,7 +2,8 @@
 ghost use Rattle.std.specs.Prelude.{◌≡◌, ◌<◌, ◌≤◌, ◌*◌, ◌^◌, None, IfOk};
 ghost use Rattle.dex_tables.specs.Content.{AreTablesOf};
 ghost use Rattle.dex_tables.specs.Rows.{list_size, list_entry, method_count, method_proto, proto_count, proto_params, type_count, type_name};
-ghost use Rattle.method_graph.specs.Operands.{AreSums, args_len, argument_words, has_its_args, is_static_call, named_of, param_type, param_words, params_words, past_table, unless_below, words_of};
+ghost use Rattle.app_model.specs.Calls.{args_len, is_static_call, words_of};
+ghost use Rattle.method_graph.specs.Operands.{AreSums, argument_words, has_its_args, named_of, param_type, param_words, params_words, past_table, unless_below};
 
 use app_model::{Args, Ins, opcode};
 use dex_tables::{Tables, string_bytes};
@@ -10,7 +11,7 @@ use std::alloc::AllocError;
 use std::collections::BTreeMap;
 
 /// For some prototypes, how many registers their parameters take.
-pub type Sums = BTreeMap<u32, u64>;
+pub type ParamSums = BTreeMap<u32, u64>;
 
 /// A row of a table that an instruction names.
 #[derive(Clone, Copy)]
@@ -131,7 +132,7 @@ fn params_from(bytes: &[u8], tables: &Tables, proto: u32) -> u64
 fn find_params(
     bytes: &[u8],
     tables: &Tables,
-    sums: &mut Sums,
+    sums: &mut ParamSums,
     proto: u32,
 ) -> Result<u64, AllocError>
     requires tables { AreTablesOf bytes.now tables.now }
@@ -153,7 +154,7 @@ fn find_params(
 pub fn find_arguments(
     bytes: &[u8],
     tables: &Tables,
-    sums: &mut Sums,
+    sums: &mut ParamSums,
     is_static: bool,
     method: u32,
 ) -> Result<u64, AllocError>
@@ -187,7 +188,7 @@ fn calls_static(op: u8) -> bool
 pub fn fits_args(
     bytes: &[u8],
     tables: &Tables,
-    sums: &mut Sums,
+    sums: &mut ParamSums,
     ins: Ins,
 ) -> Result<bool, AllocError>
     requires tables { AreTablesOf bytes.now tables.now }

@@ -1,71 +1,71 @@
 -- From the answer to an application to that of its file.
-use Rattle.std.proofs.Common.{◌≡◌, ◌≤◌, ℕ, List, [], length, Option, Some, None, Result, Ok, Err, IfOk, ◌⊎◌, inl, inr, refl, ◌∙◌, ap, sym, subst}
+use Rattle.std.proofs.Common.{◌≡◌, ℕ, List, [], ◌∷◌, true, Option, Some, None, Result, Ok, Err, IfOk, ◌⊎◌, inl, inr, refl, ◌∙◌, ap, sym, subst, arith}
 use Rattle.ns_base.specs.declared.answers.Exit.{Exit}
 use Rattle.ns_base.specs.declared.answers.Exit.TheVariants as exits
+use Rattle.ns_base.specs.Outside.{Rose}
 use Rattle.app_model.specs.Parts.{AppParts}
-use Rattle.first_form.specs.FirstForm.{IsReceiverApp}
+use Rattle.dex_file.specs.declared.fault.FileFault.{FileFault}
+use Rattle.dex_file.specs.declared.fault.FileFault.TheVariants.{Dex, Code, Memory}
+use Rattle.dex_file.specs.Content.{FileContent}
+use Rattle.dex_file.specs.Exact.{IsFault}
+use Rattle.app_link.specs.declared.link_fault.LinkFault.{LinkFault}
+use Rattle.app_link.specs.declared.link_fault.LinkFault.TheVariants as link
+use Rattle.app_link.specs.Linking.{IsLinked}
+use Rattle.app_link.proofs.FirstFault.{linked_once}
 use Rattle.flow_model.specs.declared.policy.Violation.{Violation}
 use Rattle.flow_model.specs.Policy.{AreViolations}
 use Rattle.straight_code.specs.Path.{path_subject}
-use Rattle.straight_code.specs.Verdict.{IsPlainPath, IsSafe, IsVerdict}
-use Rattle.nosleep.specs.declared.answer.Answer.{Answer}
-use Rattle.nosleep.specs.Answer.{IsJudged, IsJudgement, IsTold, IsFileAnswer, IsAnswer}
-use Rattle.nosleep.specs.Words.{Receiver, form_of}
-use Rattle.ns_base.specs.Outside.{Rose}
+use Rattle.straight_code.specs.Receiver.{is_receiver}
+use Rattle.straight_code.specs.Verdict.{IsSafe, IsVerdict}
 use Rattle.report_text.specs.Texts.{not_built_text}
-use Rattle.nosleep.proofs.Unique.{app_same}
-
-module _ (bs class : List ℕ) (app : AppParts) (short : length bs ≤ 33554432) (is : IsReceiverApp bs class app) where
-  judged : IsPlainPath app → IsJudged bs class app
-  judged path = record { limit = short; is = is; path = path }
-
-  pub file_answer : (text : List ℕ) (exit : Exit) → IsJudgement app text exit → IsFileAnswer bs class text exit
-  file_answer text exits.Bad j = (j.0, λ other k. j.1 (subst (λ (a : AppParts). IsPlainPath a) (app_same bs class other app k.is is) k.path))
-  file_answer text exits.Reports j = (app, judged j.0, j.1)
-  file_answer text exits.Accept j = (j.0, (app, judged j.1, j.2))
-  file_answer text exits.Scope j = j
-  file_answer text exits.Usage j = j
-  file_answer text exits.ReadFault j = j
-  file_answer text exits.WriteFault j = j
-  file_answer text exits.WatcherFault j = j
-  file_answer text exits.Limit j = j
-  file_answer text exits.Memory j = j
-  file_answer text exits.Broken j = j
-  file_answer text exits.Partly j = j
-
-  pub judged_answer : {E : Type 0} (r : Result Answer E) → IfOk r (λ a. IsJudgement app a.text.items a.exit) → IfOk r (λ a. IsFileAnswer bs class a.text.items a.exit)
-  judged_answer (Ok a) j = file_answer a.text.items a.exit j
-  judged_answer (Err e) j = tt
+use Rattle.nosleep.specs.declared.answer.Answer.{Answer}
+use Rattle.nosleep.specs.Answer.{Answers, IsAnswer, IsContentAnswer, IsFaultAnswer, IsFileAnswer, IsJudged, IsJudgedFile, IsJudgement, IsLinkAnswer}
+use Rattle.nosleep.specs.Told.{IsTold}
+use Rattle.nosleep.specs.Words.{Receiver, form_of}
 
 -- ---- from the answer to violations to that of their application
-told_by : (app : AppParts) (violations : List Violation) (text : List ℕ) (exit : Exit) → IsPlainPath app → AreViolations (path_subject app) violations
-    → (violations ≡ [] → IsSafe (path_subject app)) → IsTold app violations text exit → IsJudgement app text exit
-told_by app violations text exits.Accept path are safe t = (t.0, path, (subst (λ (vs : List Violation). AreViolations (path_subject app) vs) t.1 are, safe t.1))
-told_by app violations text exits.Reports path are safe t = (path, (violations, are, t.0, t.1))
-told_by app violations text exits.Bad path are safe t = absurd t
-told_by app violations text exits.Scope path are safe t = t
-told_by app violations text exits.Usage path are safe t = t
-told_by app violations text exits.ReadFault path are safe t = t
-told_by app violations text exits.WriteFault path are safe t = t
-told_by app violations text exits.WatcherFault path are safe t = t
-told_by app violations text exits.Limit path are safe t = t
-told_by app violations text exits.Memory path are safe t = t
-told_by app violations text exits.Broken path are safe t = t
-told_by app violations text exits.Partly path are safe t = t
+told_by : (class : List ℕ) (app : AppParts) (violations : List Violation) (text : List ℕ) (exit : Exit) → IsJudged class app → AreViolations (path_subject app) violations
+    → (violations ≡ [] → IsSafe (path_subject app)) → IsTold app violations text exit → IsJudgement class app text exit
+told_by class app violations text exits.Accept judged are safe t = (t.0, judged, (subst (λ (vs : List Violation). AreViolations (path_subject app) vs) t.1 are, safe t.1))
+told_by class app violations text exits.Reports judged are safe t = (judged, (violations, are, t.0, t.1))
+told_by class app violations text exits.Bad judged are safe t = absurd t
+told_by class app violations text exits.Scope judged are safe t = t
+told_by class app violations text exits.Usage judged are safe t = t
+told_by class app violations text exits.ReadFault judged are safe t = t
+told_by class app violations text exits.WriteFault judged are safe t = t
+told_by class app violations text exits.WatcherFault judged are safe t = t
+told_by class app violations text exits.Limit judged are safe t = t
+told_by class app violations text exits.Memory judged are safe t = t
+told_by class app violations text exits.Broken judged are safe t = t
+told_by class app violations text exits.Partly judged are safe t = t
 
-pub told_answer : {E : Type 0} (app : AppParts) (violations : List Violation) (r : Result Answer E) → IsVerdict app (Some violations)
-    → (Some violations ≡ Some [] → IsSafe (path_subject app)) → IfOk r (λ a. IsTold app violations a.text.items a.exit) → IfOk r (λ a. IsJudgement app a.text.items a.exit)
-told_answer app violations (Ok a) v safe t = told_by app violations a.text.items a.exit v.0 v.1 (λ none. safe (ap (λ (vs : List Violation). Some vs) none)) t
-told_answer app violations (Err e) v safe t = tt
+pub told_answer : {E : Type 0} (class : List ℕ) (app : AppParts) (violations : List Violation) (r : Result Answer E) → is_receiver app class ≡ true → IsVerdict app (Some violations)
+    → (Some violations ≡ Some [] → IsSafe (path_subject app)) → IfOk r (λ a. IsTold app violations a.text.items a.exit) → IfOk r (λ a. IsJudgement class app a.text.items a.exit)
+told_answer class app violations (Ok a) form v safe t =
+    told_by class app violations a.text.items a.exit (record { form = form; path = v.0 }) v.1 (λ none. safe (ap (λ (vs : List Violation). Some vs) none)) t
+told_answer class app violations (Err e) form v safe t = tt
 
--- ---- the answer to a file that has no application
-refused_by : (bs class : List ℕ) (text : List ℕ) (exit : Exit) → ((app : AppParts) → ¬ IsReceiverApp bs class app) → text ≡ not_built_text → exit ≡ exits.Bad → IsFileAnswer bs class text exit
-refused_by bs class text exit none t e = subst (λ (x : Exit). IsFileAnswer bs class text x) (sym e) (t, λ app j. none app j.is)
+-- ---- the answer to an application that is not judged
+refused_by : (class : List ℕ) (app : AppParts) (text : List ℕ) (exit : Exit) → ¬ IsJudged class app → exit ≡ exits.Bad → text ≡ not_built_text → IsJudgement class app text exit
+refused_by class app text exit none e t = subst (λ (x : Exit). IsJudgement class app text x) (sym e) (t, none)
 
-pub refused_answer : {E : Type 0} (bs class : List ℕ) (r : Result Answer E) → ((app : AppParts) → ¬ IsReceiverApp bs class app)
-    → IfOk r (λ a. (a.exit ≡ exits.Bad) × (a.text.items ≡ not_built_text)) → IfOk r (λ a. IsFileAnswer bs class a.text.items a.exit)
-refused_answer bs class (Ok a) none h = refused_by bs class a.text.items a.exit none h.1 h.0
-refused_answer bs class (Err e) none h = tt
+pub refused_answer : {E : Type 0} (class : List ℕ) (app : AppParts) (r : Result Answer E) → ¬ IsJudged class app
+    → IfOk r (λ a. (a.exit ≡ exits.Bad) × (a.text.items ≡ not_built_text)) → IfOk r (λ a. IsJudgement class app a.text.items a.exit)
+refused_answer class app (Ok a) none h = refused_by class app a.text.items a.exit none h.0 h.1
+refused_answer class app (Err e) none h = tt
+
+-- ---- from the answer to what linking gave to that of the content, and from a fault of reading
+pub linked_answer : {E : Type 0} (class : List ℕ) (content : FileContent) (linked : Result AppParts LinkFault) (r : Result Answer E) → IsLinked (content ∷ []) linked
+    → IfOk r (λ a. IsLinkAnswer class content linked a.text.items a.exit) → IfOk r (λ a. IsContentAnswer class (Ok content) a.text.items a.exit)
+linked_answer class content linked (Ok a) is j = (linked, is, j)
+linked_answer class content linked (Err e) is j = tt
+
+pub fault_answer : {E : Type 0} (class : List ℕ) (fault : FileFault) (wanted : Result FileContent FileFault) (r : Result Answer E) → IsFault fault wanted
+    → IfOk r (λ a. IsFaultAnswer fault a.text.items a.exit) → IfOk r (λ a. IsContentAnswer class wanted a.text.items a.exit)
+fault_answer class fault wanted (Err e) is j = tt
+fault_answer class Memory wanted (Ok a) is j = absurd j
+fault_answer class (Dex fault) wanted (Ok a) is j = subst (λ (w : Result FileContent FileFault). IsContentAnswer class w a.text.items a.exit) (sym is.1) j
+fault_answer class (Code method fault) wanted (Ok a) is j = subst (λ (w : Result FileContent FileFault). IsContentAnswer class w a.text.items a.exit) (sym is.1) j
 
 -- ---- a file that can be judged is accepted or reported
 same_names : (d c e f : List ℕ) → Some (Receiver d c) ≡ Some (Receiver e f) → (d ≡ e) × (c ≡ f)
@@ -75,20 +75,43 @@ no_form : {A : Type 0} (a : A) (o : Option A) → o ≡ None → o ≡ Some a �
 no_form a None p q = cc
 no_form a (Some b) p q = cc
 
-module _ (words : List (List ℕ)) (content : List ℕ → Option (List ℕ)) (before now : ℕ) (dex class bs : List ℕ) (app : AppParts)
-    (form : form_of words ≡ Some (Receiver dex class)) (told : content dex ≡ Some bs) (is : IsJudged bs class app) (quiet : ¬ Rose before now) where
-  pub judged_exit : (text : List ℕ) (exit : Exit) → IsAnswer words content before now text exit → (exit ≡ exits.Accept) ⊎ ((exit ≡ exits.Reports) ⊎ (exit ≡ exits.Memory))
-  judged_exit text exits.Accept a = inl refl
-  judged_exit text exits.Reports a = inr (inl refl)
-  judged_exit text exits.Memory a = inr (inr refl)
-  judged_exit text exits.Usage a = absurd (no_form (Receiver dex class) (form_of words) a.0 form)
-  judged_exit text exits.ReadFault a = absurd (quiet a.3.1)
-  judged_exit text exits.Bad a =
+by_link : (class : List ℕ) (content : FileContent) (app : AppParts) (linked : Result AppParts LinkFault) (text : List ℕ) (exit : Exit)
+    → (linked ≡ Ok app) ⊎ (linked ≡ Err link.Memory) → IsLinkAnswer class content linked text exit → IsJudgement class app text exit
+by_link class content app linked text exit (inl same) j = subst (λ (r : Result AppParts LinkFault). IsLinkAnswer class content r text exit) same j
+by_link class content app linked text exit (inr none) j = absurd (subst (λ (r : Result AppParts LinkFault). IsLinkAnswer class content r text exit) none j)
+
+-- the answer to a file that can be judged is that to its application
+pub judgement_of : (bs class : List ℕ) (app : AppParts) (text : List ℕ) (exit : Exit) → IsJudgedFile bs class app → IsFileAnswer class bs text exit → IsJudgement class app text exit
+judgement_of bs class app text exit is a =
+    let here = subst (λ (r : Result FileContent FileFault). IsContentAnswer class r text exit) is.read a.answer in
+    by_link class is.content app here.0 text exit (linked_once (is.content ∷ []) app here.0 is.linked here.1) here.2
+
+module _ (words : List (List ℕ)) (content : List ℕ → Option (List ℕ)) (before now : ℕ) (dex class bs : List ℕ)
+    (form : form_of words ≡ Some (Receiver dex class)) (told : content dex ≡ Some bs) where
+  -- what is answered to the words is answered to these bytes
+  pub answer_of : (text : List ℕ) (exit : Exit) → Answers words content text exit → IsFileAnswer class bs text exit
+  answer_of text exit a =
       let names = same_names dex class a.0 a.1 (sym form ∙ a.2) in
-      absurd (a.3.1 bs (subst (λ d. content d ≡ Some bs) names.0 told) app (subst (λ c. IsJudged bs c app) names.1 is))
-  judged_exit text exits.Scope a = absurd a
-  judged_exit text exits.WriteFault a = absurd a
-  judged_exit text exits.WatcherFault a = absurd a
-  judged_exit text exits.Limit a = absurd a
-  judged_exit text exits.Broken a = absurd a
-  judged_exit text exits.Partly a = absurd a
+      let same = a.3.1 bs (subst (λ (d : List ℕ). content d ≡ Some bs) names.0 told) in
+      subst (λ (b : List ℕ). IsFileAnswer class b text exit) same (subst (λ (c : List ℕ). IsFileAnswer c a.3.0 text exit) (sym names.1) a.3.2)
+
+  module _ (app : AppParts) (is : IsJudgedFile bs class app) (quiet : ¬ Rose before now) where
+    by_file : (text : List ℕ) (exit : Exit) → Answers words content text exit → IsJudgement class app text exit
+    by_file text exit a = judgement_of bs class app text exit is (answer_of text exit a)
+
+    pub judged_exit : (text : List ℕ) (exit : Exit) → IsAnswer words content before now text exit → (exit ≡ exits.Accept) ⊎ ((exit ≡ exits.Reports) ⊎ (exit ≡ exits.Memory))
+    judged_exit text exits.Accept a = inl refl
+    judged_exit text exits.Reports a = inr (inl refl)
+    judged_exit text exits.Memory a = inr (inr refl)
+    judged_exit text exits.Usage a = absurd (no_form (Receiver dex class) (form_of words) a.0 form)
+    judged_exit text exits.ReadFault a = absurd (quiet a.3.1)
+    judged_exit text exits.Bad a = absurd ((by_file text exits.Bad a).1 is.judged)
+    judged_exit text exits.Limit (inl a) =
+        let names = same_names dex class a.0 a.1 (sym form ∙ a.2) in
+        absurd (let long = a.3.1 bs (subst (λ (d : List ℕ). content d ≡ Some bs) names.0 told) in let short = is.limit in omega arith)
+    judged_exit text exits.Limit (inr a) = absurd (by_file text exits.Limit a)
+    judged_exit text exits.Scope a = absurd a
+    judged_exit text exits.WriteFault a = absurd a
+    judged_exit text exits.WatcherFault a = absurd a
+    judged_exit text exits.Broken a = absurd a
+    judged_exit text exits.Partly a = absurd a

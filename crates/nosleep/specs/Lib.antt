@@ -1,4 +1,5 @@
 pub mod Answer
 pub mod Reading
+pub mod Told
 pub mod Words
 pub mod Writing

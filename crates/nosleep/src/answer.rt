@@ -1,21 +1,29 @@
 //! The answer to the words and files, before anything is written.
-ghost use Rattle.std.specs.Prelude.{◌≡◌, ◌≢◌, ◌≤◌, ◌<◌, [], ◌∷◌, map, length, vec_len, string_bytes, IfOk};
+ghost use Rattle.std.specs.Prelude.{◌≡◌, ◌≢◌, ◌≤◌, [], ◌∷◌, map, length, string_bytes, IfOk, Ok};
 ghost use Rattle.ns_base.specs.declared.answers.Exit.TheVariants as exits;
-ghost use Rattle.nosleep.specs.Answer.{IsAnswer, IsFileAnswer, IsJudgement, IsTold};
+ghost use Rattle.dex_file.specs.Content.{FileContent};
+ghost use Rattle.dex_file.specs.Reading.{content_of};
+ghost use Rattle.dex_file.specs.Sizes.{IsShort};
+ghost use Rattle.nosleep.specs.Answer.{IsAnswer, IsContentAnswer, IsFaultAnswer, IsJudgement, IsLinkFaultAnswer, IsOver};
+ghost use Rattle.nosleep.specs.Told.{IsTold};
 ghost use Rattle.nosleep.specs.Reading.{KeepsShelf};
 ghost use Rattle.report_text.specs.Texts.{not_built_text};
 ghost use Rattle.straight_code.specs.Path.{receiver};
-ghost use Rattle.straight_code.specs.Verdict.{IsSmallApp};
 
 use crate::reading::{Reading, read_whole};
 use crate::words::asked_by;
+use app_link::{LinkFault, link};
 use app_model::{App, ComponentRow, Kind};
-use first_form::find_app;
+use dalvik_decode::CodeFault;
+use dex_bytes::DexFault;
+use dex_file::{DexParts, FileFault, class_name, read_dex};
 use flow_model::Violation;
-use ns_base::{ClassNo, Exit, MethodNo, Shelf};
-use report_text::{accept, cannot_read, heads_text, not_built, usage};
+use ns_base::{ClassNo, Counted, Exit, MethodNo, Shelf};
+use report_text::{
+    accept, bad_code, bad_dex, bad_link, cannot_read, heads_text, not_built, over_limit, usage,
+};
 use std::alloc::{AllocError, Global};
-use straight_code::judge;
+use straight_code::{is_receiver, judge};
 
 /// An exit, and the text that is written with it.
 #[derive(Drop)]
@@ -46,7 +54,7 @@ pub fn find_answer<F: Shelf>(
             exit: Exit::ReadFault,
             text: cannot_read(alloc, asked.dex)?,
         }),
-        Reading::TooLong => refuse(alloc),
+        Reading::TooLong => over(alloc, Counted::FileBytes),
         Reading::Whole(bytes) => judge_file(alloc, &bytes, asked.class.as_bytes()),
     }
 }
@@ -54,19 +62,41 @@ pub fn find_answer<F: Shelf>(
 /// The answer to a file of these bytes.
 fn judge_file(alloc: Global, bytes: &[u8], class: &[u8]) -> Result<Answer, AllocError>
     requires { length bytes.now ≤ 33554432 }
-    ensures { IfOk result (λ a. IsFileAnswer bytes.now class.now a.text.items a.exit) }
+    ensures { IfOk result (λ a. IsContentAnswer class.now (content_of bytes.now) a.text.items a.exit) }
 {
-    match find_app(alloc, bytes, class)? {
-        Some(app) => judge_app(alloc, &app),
-        None => refuse(alloc),
+    match read_dex(alloc, bytes) {
+        Ok(file) => judge_parts(alloc, bytes, file, class),
+        Err(fault) => refuse_file(alloc, fault),
+    }
+}
+
+/// The answer to the content of a file of these bytes.
+fn judge_parts(
+    alloc: Global,
+    bytes: &[u8],
+    file: DexParts,
+    class: &[u8],
+) -> Result<Answer, AllocError>
+    requires len { length bytes.now ≤ 33554432 }
+    requires short { IsShort file }
+    requires content { content_of bytes.now ≡ Ok file }
+    ensures { IfOk result (λ a. IsContentAnswer class.now (content_of bytes.now) a.text.items a.exit) }
+{
+    let mut files = Vec::with_capacity(alloc, 1)?;
+    files.push(file)?;
+    match link(alloc, files) {
+        Ok(app) => judge_app(alloc, &app, class),
+        Err(fault) => refuse_link(alloc, bytes, fault),
     }
 }
 
 /// The answer to an application.
-fn judge_app(alloc: Global, app: &App) -> Result<Answer, AllocError>
-    requires { IsSmallApp app.now }
-    ensures { IfOk result (λ a. IsJudgement app.now a.text.items a.exit) }
+fn judge_app(alloc: Global, app: &App, class: &[u8]) -> Result<Answer, AllocError>
+    ensures { IfOk result (λ a. IsJudgement class.now app.now a.text.items a.exit) }
 {
+    if !is_receiver(app, class) {
+        return refuse(alloc);
+    }
     match judge(alloc, app)? {
         None => refuse(alloc),
         Some(violations) => tell(alloc, app, &violations),
@@ -106,11 +136,58 @@ fn list_receiver(alloc: Global) -> Result<Vec<ComponentRow>, AllocError>
     Ok(list)
 }
 
+/// The answer to the first fault of a file.
+fn refuse_file(alloc: Global, fault: FileFault) -> Result<Answer, AllocError>
+    ensures { IfOk result (λ a. IsFaultAnswer fault a.text.items a.exit) }
+{
+    match fault {
+        FileFault::Dex(DexFault::Limit(which)) => over(alloc, which),
+        FileFault::Dex(DexFault::Memory)
+        | FileFault::Code(_, CodeFault::Memory)
+        | FileFault::Memory => Err(AllocError),
+        FileFault::Dex(fault) => Ok(bad(bad_dex(alloc, 0, fault)?)),
+        FileFault::Code(method, fault) => Ok(bad(bad_code(alloc, 0, method, fault)?)),
+    }
+}
+
+/// The answer to the first fault of linking the file of these bytes. The content went into linking, so
+/// the name of a class is read again.
+fn refuse_link(alloc: Global, bytes: &[u8], fault: LinkFault) -> Result<Answer, AllocError>
+    requires { length bytes.now ≤ 33554432 }
+    ensures { (content : FileContent) → content_of bytes.now ≡ Ok content
+        → IfOk result (λ a. IsLinkFaultAnswer content fault a.text.items a.exit) }
+{
+    match fault {
+        LinkFault::Limit(which) => over(alloc, which),
+        LinkFault::Memory => Err(AllocError),
+        LinkFault::DuplicateClass(_, row, _) => match class_name(alloc, bytes, row) {
+            Ok(name) => Ok(bad(bad_link(alloc, &name, fault)?)),
+            Err(_) => Err(AllocError),
+        },
+        _ => Ok(bad(bad_link(alloc, b"", fault)?)),
+    }
+}
+
+fn bad(text: Vec<u8>) -> Answer
+    ensures { (result.exit ≡ exits.Bad) × (result.text ≡ text) }
+{
+    Answer {
+        exit: Exit::Bad,
+        text,
+    }
+}
+
+fn over(alloc: Global, which: Counted) -> Result<Answer, AllocError>
+    ensures { IfOk result (λ a. IsOver which a.text.items a.exit) }
+{
+    Ok(Answer {
+        exit: Exit::Limit,
+        text: over_limit(alloc, which)?,
+    })
+}
+
 fn refuse(alloc: Global) -> Result<Answer, AllocError>
     ensures { IfOk result (λ a. (a.exit ≡ exits.Bad) × (a.text.items ≡ not_built_text)) }
 {
-    Ok(Answer {
-        exit: Exit::Bad,
-        text: not_built(alloc)?,
-    })
+    Ok(bad(not_built(alloc)?))
 }

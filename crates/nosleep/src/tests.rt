@@ -1,9 +1,10 @@
 //! What no clause says: the answers to whole command lines, and the real outside.
 use crate::adapters::{FileShelf, Output};
 use crate::top::nosleep;
+use dex_bytes::adler32;
 use ns_base::{Exit, Failed, Shelf, Sink};
 use ns_memory::{MemoryShelf, MemorySink};
-use rows::{ACCEPTED, NOT_BUILT, R, ROWS, Told, WORKS};
+use rows::{ACCEPTED, JUDGED, MAKE, NOT_BUILT, OTHERS, R, REFUSED, RETURN, Row, Told, WORKS};
 use std::alloc::{AllocError, Global};
 use std::fs;
 use std::test::Fail;
@@ -28,7 +29,10 @@ const HELP: Told = (
 // Words over the sample `a` and the empty file `e`, and the answer.
 static ANSWERS: [(&[&str], Told); 8] = [
     (&["receiver", "a", "Lapp/R;"], ACCEPTED),
-    (&["receiver", "e", "Lapp/R;"], NOT_BUILT),
+    (
+        &["receiver", "e", "Lapp/R;"],
+        (Exit::Bad, "bad dex 0 Short 0\n"),
+    ),
     (&["receiver", "a", "Lapp/Q;"], NOT_BUILT),
     (
         &["receiver", "b c\\", "Lapp/R;"],
@@ -81,14 +85,94 @@ fn tells(
     is_told(alloc, words, shelf_of(alloc, file, fail)?, sink, told)
 }
 
+// What the first row shows that is answered otherwise.
+fn first_wrong(alloc: Global, rows: &[Row]) -> Result<Option<&'static str>, Fail> {
+    for (shows, class, parts, told) in rows.iter() {
+        let file = layout::dex(alloc, class, parts)?;
+        if !tells(alloc, &["receiver", "a", class.name], &file, &[], told)? {
+            return Ok(Some(*shows));
+        }
+    }
+    Ok(None)
+}
+
 #[test]
-fn a_receiver_is_accepted_reported_or_refused(rt: HostRuntime) -> Result<(), Fail> {
-    for (shows, class, parts, told) in ROWS.iter() {
-        let file = layout::dex(rt.alloc(), class, parts)?;
+fn a_receiver_is_accepted_or_reported(rt: HostRuntime) -> Result<(), Fail> {
+    assert_eq!(rt; first_wrong(rt.alloc(), &JUDGED)?, None);
+    Ok(())
+}
+
+#[test]
+fn other_applications_are_not_built(rt: HostRuntime) -> Result<(), Fail> {
+    assert_eq!(rt; first_wrong(rt.alloc(), &OTHERS)?, None);
+    Ok(())
+}
+
+#[test]
+fn bad_files_are_refused_by_name_and_place(rt: HostRuntime) -> Result<(), Fail> {
+    assert_eq!(rt; first_wrong(rt.alloc(), &REFUSED)?, None);
+    Ok(())
+}
+
+// Bytes put elsewhere in the file, from the start or the end, and the answer.
+static CHANGES: [(usize, &[u8], &str); 3] = [
+    (0, b"P", "bad dex 0 Magic\n"),
+    (4, b"038", "bad dex 0 Version\n"),
+    (40, b"V", "bad dex 0 Endian\n"),
+];
+
+fn put(file: &mut [u8], at: usize, bytes: &[u8]) {
+    for (place, byte) in file.iter_mut().skip(at).zip(bytes) {
+        *place = *byte;
+    }
+}
+
+#[test]
+fn changed_files_are_refused_by_name(rt: HostRuntime) -> Result<(), Fail> {
+    let alloc = rt.alloc();
+    let sample = layout::dex(alloc, &R, WORKS)?;
+    for (at, bytes, text) in CHANGES.iter() {
+        let mut file = sample.to_vec(alloc)?;
+        put(&mut file, *at, bytes);
         assert!(rt;
-            tells(rt.alloc(), &["receiver", "a", class.name], &file, &[], told)?,
-            "{shows}"
+            tells(alloc, &WORDS, &file, &[], &(Exit::Bad, text))?,
+            "{text}"
         );
+    }
+    let Some((last, short)) = sample.split_last() else {
+        return Err("a file".into());
+    };
+    let told = (Exit::Bad, "bad dex 0 FileSize\n");
+    assert!(rt; tells(alloc, &WORDS, short, &[], &told)?);
+    let mut file = short.to_vec(alloc)?;
+    file.push(*last ^ 1)?;
+    let told = (Exit::Bad, "bad dex 0 Checksum\n");
+    assert!(rt; tells(alloc, &WORDS, &file, &[], &told)?);
+    Ok(())
+}
+
+#[test]
+fn a_wrong_signature_is_told_from_a_wrong_checksum(rt: HostRuntime) -> Result<(), Fail> {
+    let mut file = layout::dex(rt.alloc(), &R, WORKS)?;
+    put(&mut file, 12, b"another signature...");
+    if file.len() < 12 {
+        return Err("a header".into());
+    }
+    let (_, signed) = file.split_at(12);
+    let sum = adler32(signed).to_le_bytes();
+    put(&mut file, 8, &sum);
+    let told = (Exit::Bad, "bad dex 0 Signature\n");
+    assert!(rt; tells(rt.alloc(), &WORDS, &file, &[], &told)?);
+    Ok(())
+}
+
+#[test]
+fn at_most_64_calls_make_a_lock(rt: HostRuntime) -> Result<(), Fail> {
+    for (calls, told) in [(64, ACCEPTED), (65, (Exit::Limit, "limit Sites\n"))] {
+        let mut parts = vec![in rt.alloc(); MAKE; calls]?;
+        parts.push(RETURN)?;
+        let file = layout::dex(rt.alloc(), &R, &parts)?;
+        assert!(rt; tells(rt.alloc(), &WORDS, &file, &[], &told)?, "{calls}");
     }
     Ok(())
 }

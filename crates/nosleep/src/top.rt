@@ -2,7 +2,7 @@
 ghost use Rattle.std.specs.Prelude.{◌≡◌, ◌≢◌, ◌⊎◌, ℕ, List, Some, map, string_bytes};
 ghost use Rattle.ns_base.specs.Outside.{Rose};
 ghost use Rattle.nosleep.specs.Words.{form_of, Receiver};
-ghost use Rattle.nosleep.specs.Answer.{IsAnswer, IsEnd, IsJudged, Judged};
+ghost use Rattle.nosleep.specs.Answer.{IsAnswer, IsEnd, IsJudgedFile, Judged};
 ghost use Rattle.nosleep.specs.Reading.{KeepsShelf};
 ghost use Rattle.app_model.specs.Parts.{AppParts};
 ghost use Rattle.straight_code.specs.Verdict.{IsSafe};
@@ -39,7 +39,7 @@ pub fn nosleep<F: Shelf, K: Sink>(
 
     // A told file that can be judged is accepted or reported, unless the outside failed or memory ran out.
     ensures complete { (dex class bs : List ℕ) (app : AppParts) → form_of (map string_bytes words.now) ≡ Some (Receiver dex class)
-        → F.content shelf.old dex ≡ Some bs → IsJudged bs class app
+        → F.content shelf.old dex ≡ Some bs → IsJudgedFile bs class app
         → ¬ Rose (F.faults shelf.old) (F.faults shelf.new) → ¬ Rose (K.faults out.old) (K.faults out.new)
         → (result ≡ Exit.Accept) ⊎ ((result ≡ Exit.Reports) ⊎ (result ≡ Exit.Memory)) }
 

@@ -1,7 +1,9 @@
 //! The texts that the program writes.
 //!
-//! - `texts` has the lines of all answers but reports, and shows names.
+//! - `texts` has the lines of the plain answers, and shows names.
 //! - `heads` has the heads of the reports: `heads_text`.
+//! - `dex_faults`, `code_faults` and `link_faults` have the refusals of files, whose numbers `numbers` writes.
+//! - `limits` has the refusal of a count.
 #![tactic(auto)]
 
 mod code_faults;

@@ -23,7 +23,7 @@ pub fn accept(alloc: Global) -> Result<Vec<u8>, AllocError>
     b"accept\n".to_vec(alloc)
 }
 
-/// The file is not of the first form.
+/// The application is not one that can be judged.
 pub fn not_built(alloc: Global) -> Result<Vec<u8>, AllocError>
     ensures { IfOk result (λ text. text.items ≡ not_built_text) }
 {

@@ -16,14 +16,12 @@ use Rattle.run_model.specs.Heaps.{Value, Heap, status, with_cleared, cleared_cel
 use Rattle.run_model.specs.Machine.{Callback, Running, edge_starts, starts, begins, is_cleared, entered_frame, entries_of, this_of}
 use Rattle.run_model.specs.Relation.{AreTagged, AreViews, Each, ExitsWell, IsCallback, IsEnded, IsHeap, IsIdle, IsInside}
 use Rattle.run_model.specs.Tagged.{IsEntered, IsTagged}
+use Rattle.flow_model.proofs.TestLaws.{none_some}
 use Rattle.run_model.proofs.Members.{each_append, each_if, each_map}
 use Rattle.run_model.proofs.Rows.{cleared_ok}
 use Rattle.run_model.proofs.Heaps.{emptied_status, kept_status, held_above, status_is, cleared_cell, uncleared_cell, cleared_heap}
 use Rattle.run_model.proofs.Registers.{tagged_under}
 use Rattle.run_model.proofs.Entries.{entries_ok}
-
-none_some : {A : Type 0} (a : A) (o : Option A) → o ≡ None → o ≡ Some a → ⊥
-none_some a o p q = absurd (let e = sym p ∙ q in cc)
 
 -- an edge is of a component that is there
 component_in : (list : List ComponentParts) (c e : ℕ) (edge : Edge) → edge_of (slice_get list c) e ≡ Some edge → c < length list

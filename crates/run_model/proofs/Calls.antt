@@ -23,8 +23,9 @@ use Rattle.run_model.specs.Heaps.{Value, Zero, Nonzero, Object, LockRef, Heap, L
 use Rattle.run_model.specs.Types.{may_receive}
 use Rattle.run_model.specs.Machine.{Frame, Over, Stuck, Escape, register, is_lock_in, gives_lock, receiver_in, lacks_argument, answers, answers_of, throws_from, lock_call_options, full_lock_call_options, operation_options, answer_options, outside_options, call_options}
 use Rattle.run_model.specs.Relation.{AreTagged, Each, IsHeap, IsInside, IsNew, Means}
+use Rattle.flow_model.proofs.TestLaws.{some_below, below_some}
 use Rattle.run_model.proofs.Members.{each_append, each_if, each_map}
-use Rattle.run_model.proofs.Heaps.{any_from, any_true, cell_same, grown_at, grown_last, grown_status, grown_heap, owned_there}
+use Rattle.run_model.proofs.Heaps.{cell_same, grown_at, grown_last, grown_status, grown_heap, owned_there}
 use Rattle.run_model.proofs.Meanings.{KeepsBut, nowhere, cell_of_lock, field_receiver, held_same, may_be, means_kept}
 use Rattle.run_model.proofs.Registers.{tagged_map, tagged_read}
 use Rattle.run_model.proofs.Entries.{answers_ok}
@@ -33,7 +34,7 @@ use Rattle.run_model.proofs.LockCalls.{answer_ok, argument_tag, operation_ok, re
 use Rattle.run_model.proofs.Steps.{Premises, Top, row_of, throws_ok}
 
 any_weaker : (f g : ℕ → Bool) (n : ℕ) → ((k : ℕ) → f k ≡ true → g k ≡ true) → any_below f n ≡ true → any_below g n ≡ true
-any_weaker f g n w h = let r = any_true f n h in any_from g n r.0 r.1 (w r.0 r.2)
+any_weaker f g n w h = let r = some_below f n h in below_some g n r.0 r.1 (w r.0 r.2)
 
 -- a register that holds a lock may hold one by its tag
 lock_tag : (row : List Tag) (values : List Value) (lo hi : ℕ) (h : Heap) → AreTagged row values lo hi h → (r : ℕ) (o : Option Value) → slice_get values r ≡ o → is_lock_in o ≡ true → may_be_lock (tag_in row r) ≡ true

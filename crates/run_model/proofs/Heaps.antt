@@ -6,27 +6,15 @@ use Rattle.std.proofs.lemmas.Bool.{cases_eq, cases_Bool, cases_lt, or_cases, or_
 use Rattle.std.proofs.lemmas.List.{get_or-set_same, get_or-set_other, get_or_past, get_or_append_left, get_or-append_right}
 use Rattle.flow_model.specs.Masks.{any_below}
 use Rattle.flow_model.specs.Policy.{is_held}
+use Rattle.flow_model.proofs.TestLaws.{bool_same, some_below, below_some}
 use Rattle.run_model.proofs.Rows.{some, is_above, held_ok}
 use Rattle.run_model.specs.Heaps.{cell, Lock, Heap, new_lock, lock_at, is_in_cell, is_positive, is_held_lock, is_lost_lock, is_lost, has_held_lock, counter_at, status_of, status, with_new, cleared_cells}
 use Rattle.run_model.specs.Relation.{IsHeap}
 use Rattle.run_model.specs.Soundness.{HoldsLock}
 
-bool_iff : (a b : Bool) → (a ≡ true → b ≡ true) → (b ≡ true → a ≡ true) → a ≡ b
-bool_iff true b f g = sym (f refl)
-bool_iff false true f g = g refl
-bool_iff false false f g = refl
-
 any_same : (f g : ℕ → Bool) (n : ℕ) → ((k : ℕ) → f k ≡ g k) → any_below f n ≡ any_below g n
 any_same f g zero e = refl
 any_same f g (suc n) e = rw (e n, any_same f g n e) refl
-
-pub any_true : (f : ℕ → Bool) (n : ℕ) → any_below f n ≡ true → (k : ℕ) × (k < n) × (f k ≡ true)
-any_true f zero h = absurd (false≢true h)
-any_true f (suc n) h = ⊎_elim (λ here. (n, omega arith, here)) (λ below. let r = any_true f n below in (r.0, omega (arith, r.1), r.2)) (or_cases (f n) (any_below f n) h)
-
-pub any_from : (f : ℕ → Bool) (n k : ℕ) → k < n → f k ≡ true → any_below f n ≡ true
-any_from f zero k lt h = absurd (omega arith)
-any_from f (suc n) k lt h = ⊎_elim (λ eq. or_left (f n) (any_below f n) (ap f (sym eq) ∙ h)) (λ ne. or_right (f n) (any_below f n) (any_from f n k (let ne' : k ≢ n = ne in omega arith) h)) (cases_eq k n)
 
 -- a lock that has an owner was made
 pub owned_there : (h : Heap) (i l : ℕ) → (lock_at h i).owner ≡ Some l → i < length h.locks
@@ -163,24 +151,24 @@ module _ (h : Heap) (l : ℕ) where
 
   off_cell : (k : ℕ) → is_held_lock h l k ≡ true → is_in_cell (cell h l) k ≡ false → is_lost h l ≡ true
   unfolding is_lost is_lost_lock
-  off_cell k e c = any_from (is_lost_lock h l) (length h.locks) k (held_there k e) (rw (c, e) refl)
+  off_cell k e c = below_some (is_lost_lock h l) (length h.locks) k (held_there k e) (rw (c, e) refl)
 
   split_forth : has_held_lock h l ≡ true → (is_lost h l || cell_held h l (cell h l)) ≡ true
   unfolding has_held_lock
-  split_forth e = let r = any_true (is_held_lock h l) (length h.locks) e in ⊎_elim (λ c. or_right (is_lost h l) _ (at_cell r.0 r.2 c)) (λ c. or_left (is_lost h l) _ (off_cell r.0 r.2 c)) (cases_Bool (is_in_cell (cell h l) r.0))
+  split_forth e = let r = some_below (is_held_lock h l) (length h.locks) e in ⊎_elim (λ c. or_right (is_lost h l) _ (at_cell r.0 r.2 c)) (λ c. or_left (is_lost h l) _ (off_cell r.0 r.2 c)) (cases_Bool (is_in_cell (cell h l) r.0))
 
   from_lost : is_lost h l ≡ true → has_held_lock h l ≡ true
   unfolding has_held_lock is_lost is_lost_lock
-  from_lost e = let r = any_true (is_lost_lock h l) (length h.locks) e in any_from (is_held_lock h l) (length h.locks) r.0 r.1 (and_parts _ _ r.2).1
+  from_lost e = let r = some_below (is_lost_lock h l) (length h.locks) e in below_some (is_held_lock h l) (length h.locks) r.0 r.1 (and_parts _ _ r.2).1
 
   from_cell : (o : Option ℕ) → cell_held h l o ≡ true → has_held_lock h l ≡ true
   unfolding has_held_lock
   from_cell None x = absurd (false≢true x)
-  from_cell (Some i) x = any_from (is_held_lock h l) (length h.locks) i (held_there i x) x
+  from_cell (Some i) x = below_some (is_held_lock h l) (length h.locks) i (held_there i x) x
 
   -- a held lock is lost, or in the cell
   held_split : has_held_lock h l ≡ (is_lost h l || cell_held h l (cell h l))
-  held_split = bool_iff _ _ split_forth (λ e. ⊎_elim from_lost (from_cell (cell h l)) (or_cases _ _ e))
+  held_split = bool_same _ _ split_forth (λ e. ⊎_elim from_lost (from_cell (cell h l)) (or_cases _ _ e))
 
   cell_above : (n : ℕ) → IsHeap n h → (o : Option ℕ) → cell h l ≡ o → cell_held h l o ≡ is_above (counter_at h o)
   unfolding is_held_lock
@@ -204,7 +192,7 @@ module _ (h : Heap) (l : ℕ) where
   holds_one : has_held_lock h l ≡ true → HoldsLock h l
   unfolding has_held_lock is_held_lock
   holds_one e =
-      let r = any_true (is_held_lock h l) (length h.locks) e in
+      let r = some_below (is_held_lock h l) (length h.locks) e in
       let p = and_parts (is_in_cell (lock_at h r.0).owner l) (is_positive (lock_at h r.0).count) r.2 in
       record { lock = r.0; owner = is_in_cell_true _ l p.0; count = positive_above _ p.1 }
 
@@ -212,7 +200,7 @@ module _ (h : Heap) (l : ℕ) where
   unfolding has_held_lock is_held_lock
   one_holds d =
       let t : (l == l) ≡ true = eq-eqb l l refl in
-      any_from (is_held_lock h l) (length h.locks) d.lock (owned_there h d.lock l d.owner) (and_from _ _ (rw d.owner t) (above_positive _ d.count))
+      below_some (is_held_lock h l) (length h.locks) d.lock (owned_there h d.lock l d.owner) (and_from _ _ (rw d.owner t) (above_positive _ d.count))
 
   pub held_exactly : (n : ℕ) → IsHeap n h → (is_held (status h l) ≡ true) ↔ HoldsLock h l
   held_exactly n ok = (λ e. holds_one (sym (status_held n ok) ∙ e), λ d. status_held n ok ∙ one_holds d)

@@ -1,5 +1,5 @@
 -- Images of statuses along the path.
-use Rattle.std.proofs.Common.{◌≡◌, ◌<◌, ◌+◌, ◌^◌, ◌==◌, nat_lt, ℕ, zero, suc, Bool, true, false, List, [], ◌∷◌, Some, slice_index, refl, sym, ◌∙◌, subst, ⊎_elim, arith, add-one}
+use Rattle.std.proofs.Common.{◌≡◌, ◌<◌, ◌+◌, ◌^◌, ◌==◌, nat_lt, ℕ, zero, suc, true, List, [], ◌∷◌, Some, slice_index, refl, sym, ◌∙◌, subst, ⊎_elim, arith, add-one}
 use Rattle.std.proofs.lemmas.Nat.Bits.{bit_at-pow_same, bit_at-pow_other}
 use Rattle.std.proofs.lemmas.Bool.{cases_eq}
 use Rattle.app_model.specs.declared.tag.Tag.{Tag}
@@ -10,15 +10,10 @@ use Rattle.flow_model.specs.Masks.{in_mask, IsImage}
 use Rattle.flow_model.specs.Passes.{passes, only}
 use Rattle.flow_model.specs.Subject.{passes_by}
 use Rattle.flow_model.proofs.MaskLaws.{IsIn-lt, IsIn-bit, IsIn-from}
-use Rattle.flow_model.proofs.TestLaws.{both, and_join, same_number, number_same, below_is, some_below, below_some}
+use Rattle.flow_model.proofs.TestLaws.{both, and_join, bool_same, same_number, number_same, below_is, some_below, below_some}
 use Rattle.straight_code.specs.Path.{row_before, on_path}
 use Rattle.straight_code.specs.Walk.{AreImages, IsColumn}
 use Rattle.straight_code.proofs.Closed.{comes_by}
-
-pub bool_same : (a b : Bool) → (a ≡ true → b ≡ true) → (b ≡ true → a ≡ true) → a ≡ b
-bool_same true b f g = sym (f refl)
-bool_same false true f g = g refl
-bool_same false false f g = refl
 
 -- ---- the first images
 only_pow : (e : ℕ) → e < 8 → only e ≡ 2 ^ e

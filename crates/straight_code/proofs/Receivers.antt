@@ -1,5 +1,5 @@
 -- A receiver is a small application.
-use Rattle.std.proofs.Common.{◌≡◌, ◌≢◌, ◌≤◌, ◌==◌, ◌&&◌, not, nat_le, ℕ, zero, suc, Bool, true, false, List, [], ◌∷◌, length, slice_get, bytes_eq, bit_and, codes, Option, Some, None, refl, sym, ◌∙◌, ap, subst, true≢false, arith}
+use Rattle.std.proofs.Common.{◌≡◌, ◌≢◌, ◌≤◌, ◌==◌, ◌&&◌, not, nat_le, ℕ, Bool, true, false, List, [], ◌∷◌, length, slice_get, bytes_eq, bit_and, codes, Option, Some, None, refl, sym, ◌∙◌, ap, subst, true≢false, arith}
 use Rattle.std.proofs.lemmas.Bool.Decides.{nat_tests}
 use Rattle.std.proofs.lemmas.Slice.Eq.{bytes_eq-Decides}
 use Rattle.app_model.specs.Parts.{AppParts, ClassParts}

@@ -1,26 +1,27 @@
 //! Tells an application of one receiver class with one static lock field and one callback.
-ghost use Rattle.std.specs.Prelude.{◌≡◌, ◌<◌, length, slice_get, true};
+ghost use Rattle.std.specs.Prelude.{◌≡◌, ◌<◌, length, slice_get, IsTrue};
 ghost use Rattle.straight_code.specs.Receiver as spec;
+ghost use Rattle.straight_code.specs.Verdict.{IsSmallApp};
 
 use crate::body::CALLBACK;
-use app_model::App;
+use app_model::{App, access};
 use ns_base::{ClassNo, FieldNo};
 
-// Access flags.
-const STATIC: u32 = 0x8;
-
-const NATIVE: u32 = 0x100;
-
-const ABSTRACT: u32 = 0x400;
-
-/// Whether the application is one receiver of this name.
-#[tactic(auto, unfolding(crate::specs::Receiver::is_receiver))]
+/// Whether the application is one receiver of this name. Such a one can be judged.
 pub fn is_receiver(app: &App, name: &[u8]) -> bool
+    ensures exact { result ≡ spec.is_receiver app.now name.now }
+    ensures small { IsTrue result → IsSmallApp app.now }
+{
+    has_form(app, name)
+}
+
+#[tactic(auto, unfolding(crate::specs::Receiver::is_receiver))]
+fn has_form(app: &App, name: &[u8]) -> bool
     ensures { result ≡ spec.is_receiver app.now name.now }
 {
     has_one_each(app)
         && is_receiver_class(app, name)
-        && app.field(FieldNo(0)).flags & STATIC != 0
+        && app.field(FieldNo(0)).flags & access::STATIC != 0
         && is_callback(app)
 }
 
@@ -57,7 +58,7 @@ fn is_callback(app: &App) -> bool
             b"V",
             &[b"Landroid/content/Context;", b"Landroid/content/Intent;"],
         )
-        && method.flags & (STATIC | NATIVE | ABSTRACT) == 0
+        && method.flags & (access::STATIC | access::NATIVE | access::ABSTRACT) == 0
         && method.ins == 3
         && method.registers >= 3
 }

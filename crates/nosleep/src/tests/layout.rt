@@ -4,13 +4,20 @@ use dex_bytes::adler32;
 use sha1::Sha1;
 use std::alloc::{AllocError, Global};
 
-/// A class with the static lock `wl` and `onReceive`. The tail stands behind the code's units: the row of a try and
-/// its handler, or nothing.
+/// A class with static locks, all named `wl`, and `onReceive`, in so many class rows, of which the first has the
+/// members.
 #[derive(Clone, Copy)]
 pub struct Class {
     pub name: &'static str,
     pub parent: &'static str,
+    /// What stands behind the code's units: the row of a try and its handler, or nothing.
     pub tail: &'static [u8],
+    pub rows: u32,
+    /// How many locks, at most 127.
+    pub locks: u8,
+    /// The method's access flags, as uleb128.
+    pub flags: &'static [u8],
+    pub has_code: bool,
 }
 
 const REGISTERS: u16 = 6;
@@ -50,7 +57,8 @@ const PROTOS: [(u32, u32, &[u16]); 4] = [
     (4, 3, &[]),
 ];
 
-const FIELDS: [(u16, u16, u32); 1] = [(0, 2, 3)];
+// The class, type and name of each lock.
+const LOCK: (u16, u16, u32) = (0, 2, 3);
 
 const METHODS: [(u16, u16, u32); 6] = [
     (0, 0, 8),
@@ -61,30 +69,34 @@ const METHODS: [(u16, u16, u32); 6] = [
     (10, 3, 22),
 ];
 
-/// Where the data behind the tables begins.
-const DATA: u32 = 112 + 4 * 24 + 4 * 12 + 12 * 4 + 8 + 8 * 6 + 32;
+// Where the class rows begin, but for the rows of fields.
+const ROWS: u32 = 112 + 4 * 24 + 4 * 12 + 12 * 4 + 8 * 6;
 
-// Bytes with numbers put behind them.
+// Bytes with numbers put behind them, and their place in the file.
 #[derive(Drop)]
-struct Bytes(Vec<u8>);
+struct Bytes {
+    bytes: Vec<u8>,
+    start: u32,
+}
 
 impl Bytes {
     fn u16(&mut self, value: u16) -> Result<(), AllocError> {
-        self.0.extend_from_slice(&value.to_le_bytes())
+        self.bytes.extend_from_slice(&value.to_le_bytes())
     }
 
     fn u32(&mut self, value: u32) -> Result<(), AllocError> {
-        self.0.extend_from_slice(&value.to_le_bytes())
+        self.bytes.extend_from_slice(&value.to_le_bytes())
     }
 
-    // The place in the file of the next byte of the data.
+    // The place in the file of the next byte.
     fn here(&self) -> u32 {
-        DATA.wrapping_add(u32::try_from(self.0.len()).unwrap_or(0))
+        self.start
+            .wrapping_add(u32::try_from(self.bytes.len()).unwrap_or(0))
     }
 
     fn align(&mut self) -> Result<(), AllocError> {
-        for _ in 0..(4 - self.0.len() % 4) % 4 {
-            self.0.push(0)?;
+        for _ in 0..(4 - self.bytes.len() % 4) % 4 {
+            self.bytes.push(0)?;
         }
         Ok(())
     }
@@ -92,18 +104,28 @@ impl Bytes {
 
 /// The file of this class, with the units of these parts one after the other as its code.
 pub fn dex(alloc: Global, class: &Class, parts: &[&[u16]]) -> Result<Vec<u8>, AllocError> {
-    let mut data = Bytes(Vec::new(alloc));
+    let mut data = Bytes {
+        bytes: Vec::new(alloc),
+        start: ROWS
+            .wrapping_add(u32::from(class.locks).wrapping_mul(8))
+            .wrapping_add(class.rows.wrapping_mul(32)),
+    };
     let lists = type_lists(alloc, &mut data)?;
     let texts = texts(alloc, &mut data, class)?;
     let members = data.here();
-    class_data(&mut data)?;
-    code_item(alloc, &mut data, class, parts)?;
-    let size = data.here();
-    let mut tail = Bytes(Vec::new(alloc));
-    header(&mut tail, size)?;
-    ids(&mut tail, &lists, &texts, members)?;
-    tail.0.extend_from_slice(&data.0)?;
-    sealed(alloc, &tail.0)
+    class_data(&mut data, class)?;
+    if class.has_code {
+        code_item(alloc, &mut data, class, parts)?;
+    }
+    let mut tail = Bytes {
+        bytes: Vec::new(alloc),
+        start: 32,
+    };
+    header(&mut tail, data.here(), class)?;
+    ids(&mut tail, &lists, &texts, class.locks)?;
+    class_rows(&mut tail, class.rows, members)?;
+    tail.bytes.extend_from_slice(&data.bytes)?;
+    sealed(alloc, &tail.bytes)
 }
 
 fn type_lists(alloc: Global, data: &mut Bytes) -> Result<Vec<u32>, AllocError> {
@@ -127,20 +149,30 @@ fn texts(alloc: Global, data: &mut Bytes, class: &Class) -> Result<Vec<u32>, All
     let mut places = Vec::new(alloc);
     for text in [class.name, class.parent].iter().chain(STRINGS.iter()) {
         places.push(data.here())?;
-        data.0.push(u8::try_from(text.len()).unwrap_or(0))?;
-        data.0.extend_from_slice(text.as_bytes())?;
-        data.0.push(0)?;
+        data.bytes.push(u8::try_from(text.len()).unwrap_or(0))?;
+        data.bytes.extend_from_slice(text.as_bytes())?;
+        data.bytes.push(0)?;
     }
     Ok(places)
 }
 
-// One static field (PRIVATE is not set: flags 9) and one virtual method (flags 1), whose code follows.
-fn class_data(data: &mut Bytes) -> Result<(), AllocError> {
-    data.0.extend_from_slice(&[1, 0, 0, 1, 0, 9, 0, 1])?;
+// The static fields (flags 9) and one virtual method, whose code follows.
+fn class_data(data: &mut Bytes, class: &Class) -> Result<(), AllocError> {
+    data.bytes.extend_from_slice(&[class.locks, 0, 0, 1])?;
+    for lock in 0..class.locks {
+        data.bytes.extend_from_slice(&[u8::from(lock > 0), 9])?;
+    }
+    data.bytes.push(0)?;
+    data.bytes.extend_from_slice(class.flags)?;
+    if !class.has_code {
+        data.bytes.push(0)?;
+        return Ok(());
+    }
     let code = data.here().wrapping_add(2).wrapping_add(3) / 4 * 4;
     let low = (code % 128) as u8;
     let high = u8::try_from(code / 128).unwrap_or(0);
-    data.0.extend_from_slice(&[low.wrapping_add(128), high])?;
+    data.bytes
+        .extend_from_slice(&[low.wrapping_add(128), high])?;
     data.align()
 }
 
@@ -163,16 +195,24 @@ fn code_item(
     if tries != 0 {
         data.align()?;
     }
-    data.0.extend_from_slice(class.tail)
+    data.bytes.extend_from_slice(class.tail)
 }
 
 // The header from the file size on.
-fn header(tail: &mut Bytes, size: u32) -> Result<(), AllocError> {
+fn header(tail: &mut Bytes, size: u32, class: &Class) -> Result<(), AllocError> {
     for number in [size, 112, 0x1234_5678, 0, 0, 0] {
         tail.u32(number)?;
     }
+    let locks = u32::from(class.locks);
     let mut off = 112u32;
-    for (rows, width) in [(24u32, 4u32), (12, 4), (4, 12), (1, 8), (6, 8), (1, 32)] {
+    for (rows, width) in [
+        (24u32, 4u32),
+        (12, 4),
+        (4, 12),
+        (locks, 8),
+        (6, 8),
+        (class.rows, 32),
+    ] {
         tail.u32(rows)?;
         tail.u32(off)?;
         off = off.wrapping_add(rows.wrapping_mul(width));
@@ -181,7 +221,7 @@ fn header(tail: &mut Bytes, size: u32) -> Result<(), AllocError> {
     tail.u32(0)
 }
 
-fn ids(tail: &mut Bytes, lists: &[u32], texts: &[u32], members: u32) -> Result<(), AllocError> {
+fn ids(tail: &mut Bytes, lists: &[u32], texts: &[u32], locks: u8) -> Result<(), AllocError> {
     for text in texts {
         tail.u32(*text)?;
     }
@@ -193,18 +233,25 @@ fn ids(tail: &mut Bytes, lists: &[u32], texts: &[u32], members: u32) -> Result<(
         tail.u32(*result)?;
         tail.u32(*list)?;
     }
-    for (class, kind, name) in FIELDS {
-        tail.u16(class)?;
-        tail.u16(kind)?;
-        tail.u32(name)?;
+    for _ in 0..locks {
+        tail.u16(LOCK.0)?;
+        tail.u16(LOCK.1)?;
+        tail.u32(LOCK.2)?;
     }
     for (class, proto, name) in METHODS {
         tail.u16(class)?;
         tail.u16(proto)?;
         tail.u32(name)?;
     }
-    for number in [0, 1, 1, 0, 0xffff_ffff, 0, members, 0] {
-        tail.u32(number)?;
+    Ok(())
+}
+
+fn class_rows(tail: &mut Bytes, rows: u32, members: u32) -> Result<(), AllocError> {
+    for row in 0..rows {
+        let members = if row == 0 { members } else { 0 };
+        for number in [0, 1, 1, 0, 0xffff_ffff, 0, members, 0] {
+            tail.u32(number)?;
+        }
     }
     Ok(())
 }

@@ -41,8 +41,8 @@ report 2 of 2: Lan\\x20app/R;->wl is L after Lan\\x20app/R;->onReceive
 );
 
 // ---- units, on the context in v4
-// The power manager of the context makes a lock, in v0.
-const MAKE: &[u16] = &[
+/// The power manager of the context makes a lock, in v0.
+pub const MAKE: &[u16] = &[
     0x001a, 9, 0x206e, 1, 0x0004, 0x000c, 0x001f, 8, 0x1112, 0x021a, 15, 0x306e, 2, 0x0210, 0x000c,
 ];
 
@@ -66,7 +66,8 @@ const NULL: &[u16] = &[0x0012];
 
 const NOP: &[u16] = &[0x0000];
 
-const RETURN: &[u16] = &[0x000e];
+/// The end.
+pub const RETURN: &[u16] = &[0x000e];
 
 // ---- classes
 /// A receiver.
@@ -74,6 +75,10 @@ pub const R: Class = Class {
     name: "Lapp/R;",
     parent: "Landroid/content/BroadcastReceiver;",
     tail: &[],
+    rows: 1,
+    locks: 1,
+    flags: &[1],
+    has_code: true,
 };
 
 // One try, of the three units at 22, with a handler at 31.
@@ -102,6 +107,36 @@ const CONTEXT_THREAD: Class = Class {
     ..THREAD
 };
 
+const OWN_PARENT: Class = Class {
+    parent: "Lapp/R;",
+    ..R
+};
+
+const TWICE: Class = Class { rows: 2, ..R };
+
+const LOCKS: Class = Class { locks: 64, ..R };
+
+const TOO_MANY_LOCKS: Class = Class { locks: 65, ..R };
+
+// PUBLIC and ABSTRACT, PUBLIC and NATIVE.
+const ABSTRACT: Class = Class {
+    flags: &[0x81, 8],
+    has_code: false,
+    ..R
+};
+
+const NATIVE_WITH_CODE: Class = Class {
+    flags: &[0x81, 2],
+    ..R
+};
+
+const STATIC: Class = Class { flags: &[9], ..R };
+
+const WITHOUT_CODE: Class = Class {
+    has_code: false,
+    ..R
+};
+
 // ---- code
 /// Acquired and released.
 pub const WORKS: &[&[u16]] = &[MAKE, PUT, GET, ACQUIRE, GET, RELEASE, RETURN];
@@ -122,7 +157,8 @@ const HANDLES: &[&[u16]] = &[
     RETURN,
 ];
 
-pub static ROWS: [Row; 33] = [
+/// What is accepted, or reported.
+pub static JUDGED: [Row; 14] = [
     ("acquired and released", R, WORKS, ACCEPTED),
     ("only returns", R, &[RETURN], ACCEPTED),
     ("does nothing, and returns", R, &[NOP, RETURN], ACCEPTED),
@@ -186,6 +222,10 @@ pub static ROWS: [Row; 33] = [
         LOST,
     ),
     ("a name with a blank is shown", BLANK, LEAKS, SHOWN),
+];
+
+/// What is no application that is judged.
+pub static OTHERS: [Row; 13] = [
     (
         "a context that is a thread",
         CONTEXT_THREAD,
@@ -232,37 +272,100 @@ pub static ROWS: [Row; 33] = [
     ("a goto", R, &[&[0x0128], RETURN], NOT_BUILT),
     ("a branch", R, &[NULL, &[0x0038, 2], RETURN], NOT_BUILT),
     ("a move", R, &[NULL, &[0x0101], RETURN], NOT_BUILT),
-    ("no opcode", R, &[&[0x003e], RETURN], NOT_BUILT),
+    ("an abstract method", ABSTRACT, &[], NOT_BUILT),
+    ("64 lock fields", LOCKS, WORKS, NOT_BUILT),
+];
+
+/// What is refused with the first fault or limit of reading or linking.
+pub static REFUSED: [Row; 15] = [
+    (
+        "no opcode",
+        R,
+        &[&[0x003e], RETURN],
+        (Exit::Bad, "bad dex 0 Code 0 BadOpcode 0 62\n"),
+    ),
     (
         "a string past the table",
         R,
         &[&[0x001a, 24], RETURN],
-        NOT_BUILT,
+        (Exit::Bad, "bad dex 0 Code 0 Operand 0 24\n"),
     ),
     (
         "a field past the table",
         R,
         &[&[0x0062, 1], RETURN],
-        NOT_BUILT,
+        (Exit::Bad, "bad dex 0 Code 0 Operand 0 1\n"),
     ),
     (
         "a method past the table",
         R,
         &[&[0x106e, 6, 4], RETURN],
-        NOT_BUILT,
+        (Exit::Bad, "bad dex 0 Code 0 Operand 0 6\n"),
     ),
     (
         "a register past the registers",
         R,
         &[&[0x061a, 9], RETURN],
-        NOT_BUILT,
+        (Exit::Bad, "bad dex 0 Code 0 Register 0 6\n"),
     ),
     (
         "fewer argument words than the method takes",
         R,
         &[&[0x106e, 1, 4], RETURN],
-        NOT_BUILT,
+        (Exit::Bad, "bad dex 0 Code 0 ArgCount 0\n"),
     ),
-    ("falls off its end", R, &[MAKE, PUT], NOT_BUILT),
-    ("no code unit", R, &[], NOT_BUILT),
+    (
+        "falls off its end",
+        R,
+        &[MAKE, PUT],
+        (Exit::Bad, "bad dex 0 Code 0 FallsOff 15\n"),
+    ),
+    (
+        "no code unit",
+        R,
+        &[],
+        (Exit::Bad, "bad dex 0 Code 0 FallsOff 0\n"),
+    ),
+    (
+        "a branch behind the code",
+        R,
+        &[NULL, &[0x0038, 9], RETURN],
+        (Exit::Bad, "bad dex 0 Code 0 Target 1 10\n"),
+    ),
+    (
+        "a class that is its own superclass",
+        OWN_PARENT,
+        WORKS,
+        (Exit::Bad, "bad link SuperCycle 0 0\n"),
+    ),
+    (
+        "two rows of one class",
+        TWICE,
+        WORKS,
+        (Exit::Bad, "bad link DuplicateClass Lapp/R; 0 0\n"),
+    ),
+    (
+        "a static method",
+        STATIC,
+        WORKS,
+        (Exit::Bad, "bad dex 0 Code 0 InsSize\n"),
+    ),
+    (
+        "a native method with code",
+        NATIVE_WITH_CODE,
+        WORKS,
+        (Exit::Bad, "bad link CodeUnwanted 0 0\n"),
+    ),
+    (
+        "a method without code",
+        WITHOUT_CODE,
+        &[],
+        (Exit::Bad, "bad link CodeMissing 0 0\n"),
+    ),
+    (
+        "65 lock fields",
+        TOO_MANY_LOCKS,
+        WORKS,
+        (Exit::Limit, "limit Locks\n"),
+    ),
 ];

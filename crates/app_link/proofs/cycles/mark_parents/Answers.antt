@@ -1,6 +1,6 @@
 use Rattle.std.proofs.Common.{◌<◌, ◌∙◌, Contains, sym, ap, subst, inl, inr}
 use Rattle.app_model.specs.Parts.{ClassParts}
-use Rattle.app_link.specs.LinkFaults.{IsParent}
+use Rattle.app_model.specs.Ancestors.{IsParent}
 use Rattle.app_link.specs.Cycles.{IsMarked}
 use Rattle.app_link.proofs.Ancestry.{of_parents, as_interface, marks_more, marks_wider}
 use Rattle.app_link.proofs.cycles.mark_parents.Goals as goal

@@ -1,6 +1,6 @@
 use Rattle.std.proofs.Common.{◌≡◌, ◌<◌, ℕ, Some, slice_get, subst, arith}
 use Rattle.app_model.specs.Parts.{ClassParts}
-use Rattle.app_link.specs.LinkFaults.{IsParent}
+use Rattle.app_model.specs.Ancestors.{IsParent}
 use Rattle.app_link.proofs.Ancestry.{at_get, same_at, below_more}
 use Rattle.app_link.proofs.cycles.type_bound.Goals as goal
 

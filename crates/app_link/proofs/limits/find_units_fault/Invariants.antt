@@ -1,5 +1,5 @@
 use Rattle.std.proofs.Common.{◌≡◌, ◌≤◌, ◌*◌, ◌^◌, take, sum_by}
-use Rattle.app_link.specs.Content.{FileContent}
+use Rattle.dex_file.specs.Content.{FileContent}
 use Rattle.app_link.proofs.limits.find_units_fault.Given as goal
 
 abbrev pub invariant-loop-n : goal.invariant-loop-n

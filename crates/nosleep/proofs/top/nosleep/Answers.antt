@@ -19,4 +19,4 @@ returns-clause-answer g c =
 
 pub returns-in-Ok-write_all-clause-complete : goal.returns-in-Ok-write_all-clause-complete
 returns-in-Ok-write_all-clause-complete g c = λ dex class bs app form told is quiet calm.
-    judged_exit (map string_bytes c.args.words.now) (g.F.Shelf.content c.args.shelf.now) (g.F.Shelf.faults c.args.shelf.now) (g.F.Shelf.faults c.find_answer.new.shelf) dex class bs app form told is quiet c.in-Ok.answer.text.items c.in-Ok.answer.exit c.in-Ok.ensures.answer
+    judged_exit (map string_bytes c.args.words.now) (g.F.Shelf.content c.args.shelf.now) (g.F.Shelf.faults c.args.shelf.now) (g.F.Shelf.faults c.find_answer.new.shelf) dex class bs form told app is quiet c.in-Ok.answer.text.items c.in-Ok.answer.exit c.in-Ok.ensures.answer

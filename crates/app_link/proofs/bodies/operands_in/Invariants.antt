@@ -1,6 +1,0 @@
-use Rattle.std.proofs.Common.{◌≡◌, map, take}
-use Rattle.app_link.specs.Linked.{operand_of}
-use Rattle.app_link.proofs.bodies.operands_in.Given as goal
-
-abbrev pub invariant-loop-i : goal.invariant-loop-i
-invariant-loop-i l = l.operands.items ≡ map (λ place. operand_of l.rows place.ins) (take l.i l.body.places)

@@ -1,7 +1,0 @@
-use Rattle.std.proofs.Common.{◌≡◌, ◌<◌, ℕ, Some, slice_get}
-use Rattle.app_link.specs.Content.{FileContent}
-use Rattle.app_link.specs.Linking.{IsSmall}
-use Rattle.app_link.proofs.link_tests.are_small.Given as goal
-
-abbrev pub invariant-loop-n : goal.invariant-loop-n
-invariant-loop-n l = (k : ℕ) (file : FileContent) → k < l.n → slice_get l.files k ≡ Some file → IsSmall file

@@ -1,6 +1,0 @@
-use Rattle.std.proofs.Common.{◌≡◌, ◌++◌, map, drop}
-use Rattle.app_link.specs.Linked.{locks_from}
-use Rattle.app_link.proofs.making.find_locks.Given as goal
-
-abbrev pub invariant-loop-f : goal.invariant-loop-f
-invariant-loop-f l = l.locks.items ++ locks_from (map (λ v. v.items) l.types) l.f (drop l.f l.fields) ≡ locks_from (map (λ v. v.items) l.types) 0 l.fields

@@ -1,6 +1,0 @@
-use Rattle.std.proofs.Common.{◌≡◌, map, take}
-use Rattle.app_link.specs.Numbers.{number_in}
-use Rattle.app_link.proofs.numbers.number_names.Given as goal
-
-abbrev pub invariant-loop-s : goal.invariant-loop-s
-invariant-loop-s l = l.numbers.items ≡ map (number_in l.names) (map (λ v. v.items) (take l.s l.strings))

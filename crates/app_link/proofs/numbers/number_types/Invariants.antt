@@ -1,6 +1,0 @@
-use Rattle.std.proofs.Common.{◌≡◌, map, take}
-use Rattle.app_link.specs.Numbers.{number_in, string_at}
-use Rattle.app_link.proofs.numbers.number_types.Given as goal
-
-abbrev pub invariant-loop-t : goal.invariant-loop-t
-invariant-loop-t l = l.numbers.items ≡ map (number_in l.types) (map (string_at l.file) (take l.t l.file.types))

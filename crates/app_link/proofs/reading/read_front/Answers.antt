@@ -1,6 +1,0 @@
-use Rattle.std.proofs.Common.{sym}
-use Rattle.app_link.proofs.Fronts.{front_is, front_whole}
-use Rattle.app_link.proofs.reading.read_front.Goals as goal
-
-pub returns-in-Ok-clause-header : goal.returns-in-Ok-clause-header
-returns-in-Ok-clause-header c = (front_is _ _ (sym c.in-Ok.ensures), front_whole _ _ (sym c.in-Ok.ensures))

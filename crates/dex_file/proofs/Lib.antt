@@ -1,0 +1,11 @@
+pub mod Chains
+pub mod ClassLaw
+pub mod ContentLaw
+pub mod Fronts
+pub mod MethodLaw
+pub mod Small
+pub mod ClassNames
+pub mod SoundTables
+pub mod SoundCalls
+pub mod SoundCode
+pub mod SoundFile

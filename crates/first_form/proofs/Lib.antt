@@ -1,6 +1,0 @@
-pub mod Apps
-pub mod Members
-pub mod Named
-pub mod Options
-pub mod Tables
-pub mod TypeLists
