@@ -2,7 +2,7 @@
 //!
 //! `specs/ClassData.antt`, `specs/CodeItem.antt` and `specs/HandlerPart.antt` say what stands where,
 //! `specs/Content.antt` when members and a code item are what stands there, and `specs/Reading.antt`
-//! in which order they are read.
+//! in which order they are read. `alike` tells which strings of a file are one text, for hostile files.
 #![tactic(auto)]
 
 mod alike;

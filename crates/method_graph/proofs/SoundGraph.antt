@@ -1,7 +1,6 @@
 -- What holds of the instructions of a method's graph.
 use Rattle.std.proofs.Common.{◌≡◌, ◌+◌, ◌<◌, ◌≤◌, ℕ, zero, suc, Bool, true, false, cond, nat_eq, nat_lt, List, [], ◌∷◌, length, get_or, Option, None, Some, Result, Ok, Err, refl, sym, subst, arith}
 use Rattle.std.specs.List.{All}
-use Rattle.std.proofs.lemmas.Bool.Decides.{nat_tests}
 use Rattle.app_model.specs.declared.ins.Ins.{Ins}
 use Rattle.app_model.specs.declared.body.Place.{Place}
 use Rattle.app_model.specs.Body.{BodyRows, IsBody}
@@ -165,17 +164,6 @@ graph_sound bs method flags code body h =
       named = λ k d lt. (all.each k d lt).0;
       arguments = λ k d lt. (all.each k d lt).1;
     }
-
--- the arguments take as many registers as the code says
-pub graph_ins : (bs : List ℕ) (method flags : ℕ) (code : CodeContent) (body : BodyRows) → graph_of bs method flags code ≡ Ok body
-    → code.ins ≡ argument_words bs (is_static flags) method
-unfolding graph_by
-graph_ins bs method flags code body h =
-    let rows = sweep_of code.units in
-    let p = graph_inv (nat_eq code.ins (argument_words bs (is_static flags) method)) (is_start (found_at rows 0)) code.registers
-    (bad_target rows None code.handlers) (places_of bs code rows rows) (FallsOff 0) InsSize body h in
-    let fits = p.0 in
-    grind (arith, nat_tests)
 
 -- the graph of code that was read is a body
 pub graph_body : (bs : List ℕ) (method flags : ℕ) (code : CodeContent) (body : BodyRows) → IsCodeIn bs code → graph_of bs method flags code ≡ Ok body → IsBody body.registers body.places

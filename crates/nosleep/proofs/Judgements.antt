@@ -17,7 +17,6 @@ use Rattle.flow_model.specs.Policy.{AreViolations}
 use Rattle.straight_code.specs.Path.{path_subject}
 use Rattle.straight_code.specs.Receiver.{is_receiver}
 use Rattle.straight_code.specs.Verdict.{IsSafe, IsVerdict}
-use Rattle.report_text.specs.Texts.{not_built_text}
 use Rattle.nosleep.specs.declared.answer.Answer.{Answer}
 use Rattle.nosleep.specs.Answer.{Answers, IsAnswer, IsContentAnswer, IsFaultAnswer, IsFileAnswer, IsJudged, IsJudgedFile, IsJudgement, IsLinkAnswer}
 use Rattle.nosleep.specs.Told.{IsTold}
@@ -44,15 +43,6 @@ pub told_answer : {E : Type 0} (class : List ℕ) (app : AppParts) (violations :
 told_answer class app violations (Ok a) form v safe t =
     told_by class app violations a.text.items a.exit (record { form = form; path = v.0 }) v.1 (λ none. safe (ap (λ (vs : List Violation). Some vs) none)) t
 told_answer class app violations (Err e) form v safe t = tt
-
--- ---- the answer to an application that is not judged
-refused_by : (class : List ℕ) (app : AppParts) (text : List ℕ) (exit : Exit) → ¬ IsJudged class app → exit ≡ exits.Bad → text ≡ not_built_text → IsJudgement class app text exit
-refused_by class app text exit none e t = subst (λ (x : Exit). IsJudgement class app text x) (sym e) (t, none)
-
-pub refused_answer : {E : Type 0} (class : List ℕ) (app : AppParts) (r : Result Answer E) → ¬ IsJudged class app
-    → IfOk r (λ a. (a.exit ≡ exits.Bad) × (a.text.items ≡ not_built_text)) → IfOk r (λ a. IsJudgement class app a.text.items a.exit)
-refused_answer class app (Ok a) none h = refused_by class app a.text.items a.exit none h.0 h.1
-refused_answer class app (Err e) none h = tt
 
 -- ---- from the answer to what linking gave to that of the content, and from a fault of reading
 pub linked_answer : {E : Type 0} (class : List ℕ) (content : FileContent) (linked : Result AppParts LinkFault) (r : Result Answer E) → IsLinked (content ∷ []) linked
