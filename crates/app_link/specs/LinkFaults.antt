@@ -5,7 +5,7 @@ use Rattle.ns_base.specs.declared.answers.Counted.{Counted}
 use Rattle.ns_base.specs.declared.answers.Counted.TheVariants.{Units, Locks, Sites}
 use Rattle.app_model.specs.declared.lock_use.LockUse.{LockUse}
 use Rattle.app_model.specs.declared.lock_use.LockUse.TheVariants.{Make}
-use Rattle.app_model.specs.Access.{is_bodiless}
+use Rattle.dalvik.specs.Access.{is_bodiless}
 use Rattle.app_model.specs.Ancestors.{IsCyclic}
 use Rattle.app_model.specs.Parts.{AppParts, ClassParts}
 use Rattle.app_model.specs.LockUse.{lock_use_at}

@@ -1,10 +1,10 @@
 //! Methods that lack code, or have some that they are not to have.
 ghost use Rattle.std.specs.Prelude.{◌≡◌, ◌≤◌, length};
-ghost use Rattle.app_model.specs.Access.{is_bodiless};
+ghost use Rattle.dalvik.specs.Access.{is_bodiless};
 ghost use Rattle.app_link.specs.LinkFaults.{is_wrong, wrong_in, wrong_in_class, wrong_in_classes, code_fault, code_fault_from};
 
 use crate::link_fault::LinkFault;
-use app_model::access;
+use dalvik::access;
 use dex_file::{FileClass, FileMethod, FileParts};
 
 /// What can be wrong with the code of a method.

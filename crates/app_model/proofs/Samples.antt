@@ -1,7 +1,7 @@
 -- Small bodies and applications are sound.
 use Rattle.std.proofs.Common.{◌≡◌, ℕ, ◌<◌, List, [], ◌∷◌, length, slice_index_or, subst, arith, rules}
-use Rattle.app_model.specs.declared.body.Place.{Place}
-use Rattle.app_model.specs.Body.{IsBody, IsSoundPlace}
+use Rattle.dalvik.specs.declared.body.Place.{Place}
+use Rattle.dalvik.specs.Body.{IsBody, IsSoundPlace}
 use Rattle.app_model.specs.Parts.{AppParts}
 use Rattle.app_model.specs.Words.{IsApp, code_len}
 

@@ -1,14 +1,12 @@
-pub mod Body
-pub mod Few
-pub mod Registers
+pub mod Masks
+pub mod Facts
 pub mod Parts
 pub mod Words
 pub mod Names
 pub mod LockUse
+pub mod Hierarchy
 pub mod Slots
 pub mod Subtypes
 pub mod Components
-pub mod Access
-pub mod Calls
 pub mod Ancestors
 pub mod Sound

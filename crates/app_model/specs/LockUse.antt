@@ -1,18 +1,15 @@
 -- What a call is to the wake locks. A lock call is an invoke-virtual, or one by range, of one of six methods of the
 -- wake lock's class. A lock is made in the same two forms by newWakeLock of the power manager.
-use Rattle.std.specs.Prelude.{ℕ, Bool, ◌&&◌, ◌||◌, ◌==◌, if◌then◌else◌, [], ◌∷◌, Option, Some, None, bytes_eq, codes}
-use Rattle.app_model.specs.declared.ins.Ins.{Ins}
-use Rattle.app_model.specs.declared.ins.Ins.TheVariants as ins
+use Rattle.dalvik.specs.Calls.{is_virtual_call}
+use Rattle.std.specs.Prelude.{ℕ, Bool, ◌&&◌, ◌||◌, if◌then◌else◌, [], ◌∷◌, Option, Some, None, bytes_eq, codes}
+use Rattle.dalvik.specs.declared.ins.Ins.{Ins}
+use Rattle.dalvik.specs.declared.ins.Ins.TheVariants as ins
 use Rattle.app_model.specs.declared.rows.Named.{Named}
 use Rattle.app_model.specs.declared.lock_use.LockUse.{LockUse}
 use Rattle.app_model.specs.declared.lock_use.LockUse.TheVariants.{Plain, Make, Acquire, Release, IsHeld, Mode, Wrong}
-use Rattle.app_model.specs.declared.opcode.TheConstants.{INVOKE_VIRTUAL, INVOKE_VIRTUAL_RANGE}
 use Rattle.app_model.specs.Parts.{AppParts}
 use Rattle.app_model.specs.Words.{ins_at, named_at}
 use Rattle.app_model.specs.Names.{name_text, is_proto, is_on, is_method, wake_lock_name, power_manager_name, string_name}
-
-abbrev pub is_virtual_call : ℕ → Bool
-is_virtual_call op = op == INVOKE_VIRTUAL || op == INVOKE_VIRTUAL_RANGE
 
 abbrev pub is_acquire : AppParts → Named → Bool
 is_acquire app named =

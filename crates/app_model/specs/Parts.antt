@@ -5,7 +5,7 @@ use Rattle.ns_base.specs.declared.rows.FieldNo.{FieldNo}
 use Rattle.app_model.specs.declared.rows.MethodRow.{MethodRow}
 use Rattle.app_model.specs.declared.rows.FieldRow.{FieldRow}
 use Rattle.app_model.specs.declared.rows.Operand.{Operand}
-use Rattle.app_model.specs.Body.{BodyRows}
+use Rattle.dalvik.specs.Body.{BodyRows}
 
 pub record ClassParts : Type 0 where
   pub name : TypeNo

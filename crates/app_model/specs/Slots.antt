@@ -2,11 +2,11 @@
 use Rattle.std.specs.Prelude.{ℕ, suc, zero, Bool, false, ◌&&◌, ◌==◌, if◌then◌else◌, List, [], length, Option, Some, None, slice_get, position, find, bytes_eq}
 use Rattle.ns_base.specs.declared.rows.FieldNo.{FieldNo}
 use Rattle.ns_base.specs.declared.rows.TypeNo.{TypeNo}
-use Rattle.app_model.specs.declared.ins.Ins.{Ins}
-use Rattle.app_model.specs.declared.ins.Ins.TheVariants as ins
+use Rattle.dalvik.specs.declared.ins.Ins.{Ins}
+use Rattle.dalvik.specs.declared.ins.Ins.TheVariants as ins
 use Rattle.app_model.specs.declared.rows.FieldRow.{FieldRow}
 use Rattle.app_model.specs.declared.rows.NamedField.{NamedField}
-use Rattle.app_model.specs.declared.opcode.TheConstants.{IGET_OBJECT, IPUT_OBJECT, SGET_OBJECT, SPUT_OBJECT}
+use Rattle.dalvik.specs.declared.opcode.TheConstants.{IGET_OBJECT, IPUT_OBJECT, SGET_OBJECT, SPUT_OBJECT}
 use Rattle.app_model.specs.Parts.{AppParts, ClassParts}
 use Rattle.app_model.specs.Words.{ins_at, field_named_at}
 use Rattle.app_model.specs.Names.{type_text, name_text, wake_lock_name}

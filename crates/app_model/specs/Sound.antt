@@ -8,16 +8,17 @@ use Rattle.ns_base.specs.declared.rows.NameNo.{NameNo}
 use Rattle.ns_base.specs.declared.rows.ProtoNo.{ProtoNo}
 use Rattle.ns_base.specs.declared.rows.ClassNo.{ClassNo}
 use Rattle.ns_base.specs.declared.rows.FieldNo.{FieldNo}
-use Rattle.app_model.specs.declared.ins.Ins.{Ins}
-use Rattle.app_model.specs.declared.ins.Ins.TheVariants as ins
+use Rattle.dalvik.specs.declared.ins.Ins.{Ins}
+use Rattle.dalvik.specs.declared.ins.Ins.TheVariants as ins
 use Rattle.app_model.specs.declared.rows.MethodRow.{MethodRow}
 use Rattle.app_model.specs.declared.rows.FieldRow.{FieldRow}
 use Rattle.app_model.specs.declared.rows.Operand.{Operand}
 use Rattle.app_model.specs.declared.rows.Operand.TheVariants.{Plain, Invoke, Access}
 use Rattle.app_model.specs.Ancestors.{IsCyclic}
-use Rattle.app_model.specs.Access.{is_bodiless}
-use Rattle.app_model.specs.Body.{BodyRows, IsBody}
-use Rattle.app_model.specs.Calls.{args_len, is_static_call, words_of}
+use Rattle.dalvik.specs.Access.{is_bodiless}
+use Rattle.dalvik.specs.Body.{BodyRows, IsBody}
+use Rattle.dalvik.specs.Descriptors.{words_of}
+use Rattle.dalvik.specs.Calls.{args_len, is_static_call}
 use Rattle.app_model.specs.Names.{type_text, wake_lock_name}
 use Rattle.app_model.specs.Parts.{AppParts, ClassParts, ProtoParts}
 use Rattle.app_model.specs.Words.{code_len, ins_at, operand_at, no_body}

@@ -1,12 +1,12 @@
 -- What is read of an application, by numbers. Out of range a word answers None.
 use Rattle.std.specs.Prelude.{ℕ, ◌≡◌, ◌≤◌, ◌<◌, ◌^◌, List, [], length, Bool, false, Option, Some, None, slice_get, slice_index_or}
-use Rattle.app_model.specs.declared.ins.Ins.{Ins}
-use Rattle.app_model.specs.declared.body.Place.{Place}
+use Rattle.dalvik.specs.declared.ins.Ins.{Ins}
+use Rattle.dalvik.specs.declared.body.Place.{Place}
 use Rattle.app_model.specs.declared.rows.Operand.{Operand}
 use Rattle.app_model.specs.declared.rows.Operand.TheVariants.{Plain, Invoke, Access}
 use Rattle.app_model.specs.declared.rows.Named.{Named}
 use Rattle.app_model.specs.declared.rows.NamedField.{NamedField}
-use Rattle.app_model.specs.Body.{BodyRows}
+use Rattle.dalvik.specs.Body.{BodyRows}
 use Rattle.app_model.specs.Parts.{AppParts}
 
 abbrev pub no_body : BodyRows

@@ -2,9 +2,8 @@
 ghost use Rattle.std.specs.Prelude.{◌≡◌, ◌<◌, length, slice_get, Some};
 ghost use Rattle.app_model.specs.Words.{IsApp, places_of, place_at, operand_at, code_len, ins_at, pc_at, successor_at, handler_at, leaves_at, named_at};
 
-use crate::body::{Body, Place};
-use crate::ins::Ins;
 use crate::rows::{AppRows, ClassRow, FieldRow, MethodRow, Named, Operand, ProtoRow};
+use dalvik::{Body, Ins, Place};
 use ns_base::{ClassNo, FieldNo, MethodNo, NameNo, ProtoNo, TypeNo};
 use std::marker::Model;
 

@@ -1,13 +1,13 @@
 //! What a call is to the wake locks.
 ghost use Rattle.std.specs.Prelude.{◌≡◌, ◌<◌, length};
 ghost use Rattle.app_model.specs.Words.{code_len};
-ghost use Rattle.app_model.specs.LockUse.{is_virtual_call, is_acquire, is_release, lock_call, is_new_wake_lock, use_of, lock_use_at};
+ghost use Rattle.dalvik.specs.Calls.{is_virtual_call};
+ghost use Rattle.app_model.specs.LockUse.{is_acquire, is_release, lock_call, is_new_wake_lock, use_of, lock_use_at};
 
 use crate::app::App;
-use crate::ins::Ins;
 use crate::names::{POWER_MANAGER, STRING, WAKE_LOCK};
-use crate::opcode;
 use crate::rows::Named;
+use dalvik::{Ins, opcode};
 use ns_base::MethodNo;
 
 /// What an instruction is to the wake locks, by the method that it names.

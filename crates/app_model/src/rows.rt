@@ -1,5 +1,5 @@
 //! The rows of an application: its classes, methods, fields and prototypes, and what instructions name.
-use crate::body::Body;
+use dalvik::Body;
 use ns_base::{ClassNo, FieldNo, NameNo, ProtoNo, TypeNo};
 use std::marker::Model;
 

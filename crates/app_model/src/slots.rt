@@ -7,10 +7,9 @@ ghost use Rattle.ns_base.specs.declared.rows.LockNo.{LockNo};
 ghost use Rattle.ns_base.specs.declared.rows.TypeNo.{TypeNo};
 
 use crate::app::App;
-use crate::ins::Ins;
 use crate::names::WAKE_LOCK;
-use crate::opcode;
 use crate::rows::{NamedField, Operand};
+use dalvik::{Ins, opcode};
 use ns_base::{ClassNo, FieldNo, LockNo, MethodNo, NameNo, TypeNo};
 
 /// Whether an instruction reads or writes a field that holds an object.

@@ -1,22 +1,9 @@
-//! Short lists, and an application without methods read back through its accessors.
+//! An application without methods, read back through its accessors.
 use crate::{App, AppRows, Few, FieldRow};
 use ns_base::{ClassNo, FieldNo, NameNo, TypeNo};
 use std::test::Fail;
 
 mod locks;
-
-#[test]
-fn short_lists_keep_their_numbers(rt: HostRuntime) -> Result<(), Fail> {
-    let mut few = Few::new();
-    for number in 0..5u32 {
-        assert_eq!(rt; few.get(number as usize), None);
-        few.push(rt.alloc(), number)?;
-        assert_eq!(rt; few.get(number as usize), Some(number));
-        assert_eq!(rt; few.get(0), Some(0));
-    }
-    assert_eq!(rt; few.len(), 5);
-    Ok(())
-}
 
 #[test]
 fn rows_are_read_back(rt: HostRuntime) -> Result<(), Fail> {

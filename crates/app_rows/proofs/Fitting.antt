@@ -5,18 +5,19 @@ use Rattle.std.proofs.lemmas.List.Elements.{All-nil, All-head, All-map, All-tail
 use Rattle.std.proofs.lemmas.List.Sums.{sum_by-cons, sum_by_push}
 use Rattle.std.proofs.lemmas.Option.{slice_get-map, slice_get_within, slice_get-get_or, get_or_from_slice_get}
 use Rattle.ns_base.specs.declared.rows.TypeNo.{TypeNo}
-use Rattle.app_model.specs.declared.body.Place.{Place}
-use Rattle.app_model.specs.declared.ins.Args.{Args}
-use Rattle.app_model.specs.declared.ins.Ins.{Ins}
-use Rattle.app_model.specs.declared.ins.Ins.TheVariants as ins
+use Rattle.dalvik.specs.declared.body.Place.{Place}
+use Rattle.dalvik.specs.declared.ins.Args.{Args}
+use Rattle.dalvik.specs.declared.ins.Ins.{Ins}
+use Rattle.dalvik.specs.declared.ins.Ins.TheVariants as ins
 use Rattle.app_model.specs.declared.rows.MethodRow.{MethodRow}
 use Rattle.app_model.specs.declared.rows.Named.{Named}
 use Rattle.app_model.specs.declared.rows.Operand.{Operand}
-use Rattle.app_model.specs.Body.{BodyRows, IsBody}
-use Rattle.app_model.specs.Calls.{is_static_call, words_of}
+use Rattle.dalvik.specs.Body.{BodyRows, IsBody}
+use Rattle.dalvik.specs.Descriptors.{words_of}
+use Rattle.dalvik.specs.Calls.{is_static_call}
 use Rattle.app_model.specs.Names.{type_text}
 use Rattle.app_model.specs.Parts.{AppParts}
-use Rattle.app_model.specs.Access.{is_bodiless}
+use Rattle.dalvik.specs.Access.{is_bodiless}
 use Rattle.app_model.specs.Sound.{params_len, FitsOperand, IsSoundMethod}
 use Rattle.app_model.specs.Words.{no_body, places_of, place_at, operand_at, ins_of}
 use Rattle.dex_tables.specs.declared.tables.MethodId.{MethodId}

@@ -3,11 +3,11 @@ use Rattle.std.proofs.Common.{◌≡◌, ◌<◌, ◌^◌, ℕ, suc, List, [], �
 use Rattle.std.proofs.lemmas.List.{length-map}
 use Rattle.std.proofs.lemmas.List.Elements.{All-map}
 use Rattle.std.proofs.lemmas.List.Kept.{AllPairs-cons}
-use Rattle.app_model.specs.declared.ins.Ins.{Ins}
-use Rattle.app_model.specs.declared.ins.Ins.TheVariants as ins
-use Rattle.app_model.specs.declared.body.Place.{Place}
-use Rattle.app_model.specs.Registers.{registers_of}
-use Rattle.app_model.specs.Body.{IsBody, IsSoundPlace, IsSuccessorCount}
+use Rattle.dalvik.specs.declared.ins.Ins.{Ins}
+use Rattle.dalvik.specs.declared.ins.Ins.TheVariants as ins
+use Rattle.dalvik.specs.declared.body.Place.{Place}
+use Rattle.dalvik.specs.Registers.{registers_of}
+use Rattle.dalvik.specs.Body.{IsBody, IsSoundPlace, IsSuccessorCount}
 use Rattle.app_rows.specs.Linked.{Rows, linked_ins, linked_place}
 
 registers-linked : (rows : Rows) (i : Ins) → registers_of (linked_ins rows i) ≡ registers_of i

@@ -9,14 +9,14 @@ use Rattle.indexmap.specs.IndexSet.{insert_key}
 use Rattle.ns_base.specs.declared.rows.TypeNo.{TypeNo}
 use Rattle.dex_tables.specs.declared.tables.FieldId.{FieldId}
 use Rattle.dex_tables.specs.declared.tables.MethodId.{MethodId}
-use Rattle.app_model.specs.declared.ins.Ins.{Ins}
-use Rattle.app_model.specs.declared.ins.Ins.TheVariants as ins
-use Rattle.app_model.specs.declared.body.Place.{Place}
+use Rattle.dalvik.specs.declared.ins.Ins.{Ins}
+use Rattle.dalvik.specs.declared.ins.Ins.TheVariants as ins
+use Rattle.dalvik.specs.declared.body.Place.{Place}
 use Rattle.app_model.specs.declared.rows.FieldRow.{FieldRow}
 use Rattle.app_model.specs.declared.rows.MethodRow.{MethodRow}
 use Rattle.app_model.specs.declared.rows.Named.{Named}
 use Rattle.app_model.specs.declared.rows.NamedField.{NamedField}
-use Rattle.app_model.specs.Body.{BodyRows}
+use Rattle.dalvik.specs.Body.{BodyRows}
 use Rattle.app_model.specs.Parts.{AppParts}
 use Rattle.app_model.specs.Sound.{IsType, IsName, IsProto, IsProtoRow, IsClassRow, IsMethodRow, IsFieldRow, IsOperand, kind_of, AreInRange}
 use Rattle.app_model.specs.Words.{no_body, places_of, place_at, ins_at, ins_of}

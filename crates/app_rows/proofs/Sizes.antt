@@ -3,8 +3,8 @@ use Rattle.std.proofs.Common.{◌≡◌, ◌<◌, ◌≤◌, ◌+◌, ◌*◌, �
 use Rattle.std.proofs.lemmas.List.{length-map, length-append, map-append}
 use Rattle.std.proofs.lemmas.List.Sums.{sum_by-cons}
 use Rattle.app_model.specs.declared.rows.Operand.{Operand}
-use Rattle.app_model.specs.declared.body.Place.{Place}
-use Rattle.app_model.specs.Body.{BodyRows}
+use Rattle.dalvik.specs.declared.body.Place.{Place}
+use Rattle.dalvik.specs.Body.{BodyRows}
 use Rattle.app_model.specs.Parts.{AppParts}
 use Rattle.app_model.specs.Words.{IsApp, no_body, places_of}
 use Rattle.dex_file.specs.declared.parts.FileCode.{FileCode}

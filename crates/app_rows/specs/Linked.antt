@@ -7,16 +7,16 @@ use Rattle.ns_base.specs.declared.rows.ProtoNo.{ProtoNo}
 use Rattle.ns_base.specs.declared.rows.FieldNo.{FieldNo}
 use Rattle.dex_tables.specs.declared.tables.FieldId.{FieldId}
 use Rattle.dex_tables.specs.declared.tables.MethodId.{MethodId}
-use Rattle.app_model.specs.declared.ins.Ins.{Ins}
-use Rattle.app_model.specs.declared.ins.Ins.TheVariants as ins
-use Rattle.app_model.specs.declared.body.Place.{Place}
+use Rattle.dalvik.specs.declared.ins.Ins.{Ins}
+use Rattle.dalvik.specs.declared.ins.Ins.TheVariants as ins
+use Rattle.dalvik.specs.declared.body.Place.{Place}
 use Rattle.app_model.specs.declared.rows.FieldRow.{FieldRow}
 use Rattle.app_model.specs.declared.rows.MethodRow.{MethodRow}
 use Rattle.app_model.specs.declared.rows.Named.{Named}
 use Rattle.app_model.specs.declared.rows.NamedField.{NamedField}
 use Rattle.app_model.specs.declared.rows.Operand.{Operand}
 use Rattle.app_model.specs.declared.rows.Operand.TheVariants as operand
-use Rattle.app_model.specs.Body.{BodyRows}
+use Rattle.dalvik.specs.Body.{BodyRows}
 use Rattle.app_model.specs.Parts.{AppParts, ClassParts, ProtoParts}
 use Rattle.app_model.specs.Names.{wake_lock_name}
 use Rattle.app_model.specs.Words.{no_body}

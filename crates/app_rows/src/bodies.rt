@@ -4,7 +4,8 @@ ghost use Rattle.app_rows.specs.Linked.{linked_ins, linked_place, linked_body, o
 
 use crate::numbers::number_at;
 use crate::rows::FileRows;
-use app_model::{Body, Ins, Operand, Place};
+use app_model::Operand;
+use dalvik::{Body, Ins, Place};
 use dex_file::FileCode;
 use std::alloc::{AllocError, Global};
 

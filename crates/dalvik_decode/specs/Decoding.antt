@@ -1,6 +1,6 @@
 -- The instruction at a pc.
 use Rattle.std.specs.Prelude.{ℕ, List, ◌+◌, nat_lt, if◌then◌else◌, length, drop, Bool, false, Option, Some, None, Result, Ok, Err}
-use Rattle.app_model.specs.declared.ins.Ins.{Ins}
+use Rattle.dalvik.specs.declared.ins.Ins.{Ins}
 use Rattle.dalvik_decode.specs.declared.faults.CodeFault.{CodeFault}
 use Rattle.dalvik_decode.specs.declared.faults.CodeFault.TheVariants.{BadOpcode, Truncated, ArgCount}
 use Rattle.dalvik_decode.specs.declared.table.Format.{Format}

@@ -1,7 +1,7 @@
 -- The instruction of each kind, from its opcode and its operands.
 use Rattle.std.specs.Prelude.{ℕ}
-use Rattle.app_model.specs.declared.ins.Ins.{Ins}
-use Rattle.app_model.specs.declared.ins.Ins.TheVariants as ins
+use Rattle.dalvik.specs.declared.ins.Ins.{Ins}
+use Rattle.dalvik.specs.declared.ins.Ins.TheVariants as ins
 use Rattle.dalvik_decode.specs.declared.operands.Operands.{Operands}
 use Rattle.dalvik_decode.specs.declared.table.Kind.{Kind}
 use Rattle.dalvik_decode.specs.declared.table.Kind.TheVariants.{Nop, Move, MoveResult, MoveException, ReturnVoid, Return, Const, ConstString, ConstClass, Monitor, CheckCast, InstanceOf, ArrayLength, NewInstance, NewArray, FilledNewArray, FillArrayData, Throw, Goto, Switch, Compare, IfPair, IfZero, ArrayGet, ArrayPut, FieldGet, FieldPut, StaticGet, StaticPut, Invoke, Unary, Binary, BinaryOnto, BinaryLiteral}

@@ -2,8 +2,8 @@
 -- A letter of the format page stands for four bits, and the opcode for the low eight of the first unit.
 use Rattle.std.specs.Prelude.{ℕ, ℤ, pos, negsuc, List, [], ◌∷◌, ◌+◌, ◌-◌, ◌*◌, ◌/◌, ◌%◌, ◌^◌, nat_lt, if◌then◌else◌, slice_index}
 use Rattle.std.specs.Int.{cast_signed, w8, w16, w32, w64}
-use Rattle.app_model.specs.declared.ins.Args.{Args}
-use Rattle.app_model.specs.declared.ins.Args.TheVariants as args
+use Rattle.dalvik.specs.declared.ins.Args.{Args}
+use Rattle.dalvik.specs.declared.ins.Args.TheVariants as args
 use Rattle.dalvik_decode.specs.declared.operands.Operands.{Operands}
 use Rattle.dalvik_decode.specs.declared.table.Format.{Format}
 use Rattle.dalvik_decode.specs.declared.table.Format.TheVariants.{F10x, F12x, F11n, F11x, F10t, F20t, F22x, F21t, F21s, F21h, F21hWide, F21c, F23x, F22b, F22t, F22s, F22c, F30t, F32x, F31i, F31t, F31c, F35c, F3rc, F51l}

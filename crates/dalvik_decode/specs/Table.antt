@@ -5,7 +5,7 @@ use Rattle.dalvik_decode.specs.declared.table.Format.TheVariants.{F10x, F12x, F1
 use Rattle.dalvik_decode.specs.declared.table.Kind.{Kind}
 use Rattle.dalvik_decode.specs.declared.table.Kind.TheVariants as kind
 use Rattle.dalvik_decode.specs.declared.table.Row.{Row}
-use Rattle.app_model.specs.declared.opcode.TheConstants as opcode
+use Rattle.dalvik.specs.declared.opcode.TheConstants as opcode
 
 -- an opcode with its format and its kind
 pub record Line : Type 0 where

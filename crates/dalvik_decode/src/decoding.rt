@@ -6,7 +6,7 @@ use crate::faults::CodeFault;
 use crate::instructions::make_instruction;
 use crate::operands::{fourth, read_operands};
 use crate::table::{Format, find_row, unit_count};
-use app_model::Ins;
+use dalvik::Ins;
 
 /// Whether the units name more arguments than the format has room for.
 fn names_too_many(format: Format, code: &[u16]) -> bool

@@ -4,7 +4,7 @@ ghost use Rattle.dalvik_decode.specs.Instructions.{instruction_of};
 
 use crate::operands::Operands;
 use crate::table::Kind;
-use app_model::Ins;
+use dalvik::Ins;
 
 /// The instruction of this kind with this opcode and these operands.
 #[inline]

@@ -5,7 +5,7 @@ ghost use Rattle.dalvik_decode.specs.Table.{units_of};
 ghost use Rattle.dalvik_decode.specs.Operands.{call_operands, constant_operands, fourth_nibble, high_byte, kept, list_of, long_at, operands_of, plain_operands, range_of, signed_nibble, signed_operands, third_nibble, word_at};
 
 use crate::table::Format;
-use app_model::Args;
+use dalvik::Args;
 
 /// The operands of an instruction. What its format does not have is 0.
 #[derive(Clone, Copy)]

@@ -1,5 +1,5 @@
 use super::*;
-use app_model::{Args, Ins};
+use dalvik::{Args, Ins};
 use std::test::Fail;
 
 /// Units, how many of them the instruction takes, and the instruction.

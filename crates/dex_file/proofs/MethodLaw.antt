@@ -11,7 +11,7 @@ use Rattle.dex_code.specs.Content.{CodeContent, IsCodeOf}
 use Rattle.dex_code.specs.Reading.{code_at}
 use Rattle.dex_code.proofs.CodeLaw.{code_read}
 use Rattle.dex_code.proofs.CodeReads.{code_reads}
-use Rattle.app_model.specs.Body.{BodyRows}
+use Rattle.dalvik.specs.Body.{BodyRows}
 use Rattle.method_graph.specs.Graph.{graph_of}
 use Rattle.dex_file.specs.declared.fault.FileFault.{FileFault}
 use Rattle.dex_file.specs.declared.parts.FileCode.{FileCode}

@@ -7,9 +7,10 @@ use Rattle.dex_tables.specs.Content.{AreRows, method_id}
 use Rattle.dex_tables.specs.Reading.{list_below}
 use Rattle.dex_tables.specs.Rows.{string_count, type_count, proto_count, field_count, method_count, type_string, type_name, proto_params, method_proto, list_size, list_entry}
 use Rattle.dex_tables.specs.Sound.{sum_below}
-use Rattle.app_model.specs.declared.ins.Ins.{Ins}
-use Rattle.app_model.specs.declared.ins.Ins.TheVariants as ins
-use Rattle.app_model.specs.Calls.{args_len, is_static_call, words_of}
+use Rattle.dalvik.specs.declared.ins.Ins.{Ins}
+use Rattle.dalvik.specs.declared.ins.Ins.TheVariants as ins
+use Rattle.dalvik.specs.Descriptors.{words_of}
+use Rattle.dalvik.specs.Calls.{args_len, is_static_call}
 use Rattle.method_graph.specs.declared.operands.Named.{Named}
 use Rattle.method_graph.specs.declared.operands.Named.TheVariants.{Nothing, Text, Kind, Field, Method}
 use Rattle.method_graph.specs.Operands.{named_of, unless_below, past_table, param_words, params_words, argument_words, has_its_args}

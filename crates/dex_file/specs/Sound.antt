@@ -3,11 +3,12 @@ use Rattle.std.specs.Prelude.{ℕ, ◌≡◌, ◌<◌, ◌≤◌, ◌+◌, lengt
 use Rattle.std.specs.List.{All}
 use Rattle.dex_tables.specs.declared.tables.FieldId.{FieldId}
 use Rattle.dex_tables.specs.declared.tables.MethodId.{MethodId}
-use Rattle.app_model.specs.declared.body.Place.{Place}
-use Rattle.app_model.specs.declared.ins.Ins.{Ins}
-use Rattle.app_model.specs.declared.ins.Ins.TheVariants as ins
-use Rattle.app_model.specs.Body.{IsBody}
-use Rattle.app_model.specs.Calls.{args_len, is_static_call, words_of}
+use Rattle.dalvik.specs.declared.body.Place.{Place}
+use Rattle.dalvik.specs.declared.ins.Ins.{Ins}
+use Rattle.dalvik.specs.declared.ins.Ins.TheVariants as ins
+use Rattle.dalvik.specs.Body.{IsBody}
+use Rattle.dalvik.specs.Descriptors.{words_of}
+use Rattle.dalvik.specs.Calls.{args_len, is_static_call}
 use Rattle.method_graph.specs.declared.operands.Named.{Named}
 use Rattle.method_graph.specs.declared.operands.Named.TheVariants.{Nothing, Text, Kind, Field, Method}
 use Rattle.method_graph.specs.Operands.{named_of}

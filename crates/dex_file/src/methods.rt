@@ -13,7 +13,7 @@ ghost use Rattle.dex_file.specs.Reading.{with_row, with_method, methods_at};
 use crate::fault::{FileFault, code_fault_of, dex_fault_of};
 use crate::parts::{FileCode, FileMethod};
 use crate::sums::Sums;
-use app_model::Body;
+use dalvik::Body;
 use dex_code::{CodeItem, Member, read_code};
 use dex_tables::Tables;
 use method_graph::{ParamSums, build_graph_with};

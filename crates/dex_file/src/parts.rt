@@ -3,7 +3,7 @@ ghost use Rattle.std.specs.Prelude.{◌≡◌};
 ghost use Rattle.dex_file.specs.Reading.{IsContent};
 ghost use Rattle.dex_file.specs.Sizes.{HasFewMembers};
 
-use app_model::Body;
+use dalvik::Body;
 use dex_tables::{FieldId, MethodId};
 use std::marker::Model;
 

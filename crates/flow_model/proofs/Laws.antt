@@ -1,6 +1,6 @@
 -- What holds of derivations, whatever the rules are.
 use Rattle.std.proofs.Common.{◌≡◌, true, List, [], ◌∷◌, ⊎_elim}
-use Rattle.flow_model.specs.Facts.{Fact}
+use Rattle.app_model.specs.Facts.{Fact}
 use Rattle.flow_model.specs.Derived.{Set, Derived, all_done, is_given, by_rule, HasAll, IsClosed, IsLeast, Either}
 
 module _ (rules : List Fact → Fact → Type 0) where

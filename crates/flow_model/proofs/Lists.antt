@@ -1,7 +1,7 @@
 -- Derivations as lists and as trees.
 use Rattle.std.proofs.Common.{◌≡◌, true, List, [], ◌∷◌, ◌++◌, refl, inl, inr, ⊎_elim}
 use Rattle.std.specs.Prelude.{◌⊎◌, ◌↔◌}
-use Rattle.flow_model.specs.Facts.{Fact}
+use Rattle.app_model.specs.Facts.{Fact}
 use Rattle.flow_model.specs.Derived.{Set, Derived, all_done, is_given, by_rule, Among, AllAmong, IsDerivation, EndsIn}
 use Rattle.flow_model.proofs.Laws.{one_more}
 

@@ -4,7 +4,8 @@ use Rattle.std.specs.Prelude.{◌⊎◌}
 use Rattle.std.specs.Int.{bit_at}
 use Rattle.std.proofs.lemmas.Bool.Decides.{nat_tests}
 use Rattle.std.proofs.lemmas.Nat.Bits.{bit_at-lt, bit_at-zero, bit_at_or, bit_at_and}
-use Rattle.flow_model.specs.Masks.{in_mask, IsIn, IsImage, IsImageBelow, IsCut}
+use Rattle.app_model.specs.Masks.{in_mask, IsIn}
+use Rattle.flow_model.specs.Images.{IsImage, IsCut, IsImageBelow}
 
 pub IsIn-lt : (mask s : ℕ) → IsIn mask s → s < 8
 IsIn-lt mask s h = grind (arith, nat_tests)

@@ -1,7 +1,7 @@
 -- What follows where a test holds: `&&`, `||`, tests of numbers, some number below n. Past its end a list has nothing.
 use Rattle.std.proofs.Common.{◌≡◌, ◌⊎◌, ℕ, zero, suc, ◌<◌, ◌≤◌, ◌+◌, ◌&&◌, ◌||◌, ◌==◌, nat_lt, Bool, true, false, List, ◌∷◌, [], Option, Some, None, slice_get, refl, sym, subst, inl, inr, ⊎_elim, true≢false, arith, length, eq-or-lt_of_le, le_of_suc-le-suc, not-suc-le-zero, add-one}
 use Rattle.std.proofs.lemmas.Bool.Decides.{nat_tests}
-use Rattle.flow_model.specs.Masks.{any_below, in_mask}
+use Rattle.app_model.specs.Masks.{in_mask, any_below}
 
 pub both : (a b : Bool) → (a && b) ≡ true → (a ≡ true) × (b ≡ true)
 both true b h = (refl, h)

@@ -1,27 +1,24 @@
 -- What each instruction does, as the rules and the machine tell instructions apart.
-use Rattle.std.specs.Prelude.{ℕ, zero, suc, ◌+◌, ℤ, pos, negsuc, Bool, true, false, ◌||◌, ◌==◌, if◌then◌else◌, List, Option, Some, None, option_map, slice_index, bytes_eq, codes}
+use Rattle.dalvik.specs.Descriptors.{is_reference}
+use Rattle.std.specs.Prelude.{ℕ, zero, suc, ℤ, pos, negsuc, Bool, true, false, ◌==◌, if◌then◌else◌, List, Option, Some, None, option_map, bytes_eq, codes}
 use Rattle.ns_base.specs.declared.rows.LockNo.{LockNo}
-use Rattle.app_model.specs.declared.ins.Ins.{Ins}
-use Rattle.app_model.specs.declared.ins.Ins.TheVariants as ins
-use Rattle.app_model.specs.declared.ins.Args.{Args}
-use Rattle.app_model.specs.declared.ins.Args.TheVariants as args
+use Rattle.dalvik.specs.declared.ins.Ins.{Ins}
+use Rattle.dalvik.specs.declared.ins.Ins.TheVariants as ins
+use Rattle.dalvik.specs.declared.ins.Args.{Args}
 use Rattle.app_model.specs.declared.rows.Named.{Named}
 use Rattle.app_model.specs.declared.lock_use.LockUse.{LockUse}
-use Rattle.app_model.specs.declared.opcode.TheConstants.{MOVE_RESULT_WIDE, SGET_OBJECT, SPUT_OBJECT}
+use Rattle.dalvik.specs.declared.opcode.TheConstants.{MOVE_RESULT_WIDE, SGET_OBJECT, SPUT_OBJECT}
 use Rattle.app_model.specs.Parts.{AppParts}
-use Rattle.app_model.specs.Registers.{is_wide_const}
+use Rattle.dalvik.specs.Registers.{is_wide_const}
 use Rattle.app_model.specs.Words.{ins_at, named_at}
 use Rattle.app_model.specs.Names.{result_text}
-use Rattle.app_model.specs.LockUse.{is_virtual_call, lock_use_at}
+use Rattle.dalvik.specs.Calls.{is_virtual_call}
+use Rattle.app_model.specs.LockUse.{lock_use_at}
 use Rattle.app_model.specs.Slots.{slot_at}
 use Rattle.flow_model.specs.declared.act.Gives.{Gives}
 use Rattle.flow_model.specs.declared.act.Gives.TheVariants.{Nothing, Number, Object}
 use Rattle.flow_model.specs.declared.act.Act.{Act}
 use Rattle.flow_model.specs.declared.act.Act.TheVariants.{Nop, ReturnVoid, TakeResult, WriteZero, WriteNonzero, WriteText, CheckCast, ReadStatic, WriteStatic, Call, Other}
-
--- descriptors of classes begin with L, those of arrays with [
-abbrev pub is_reference : List ℕ → Bool
-is_reference text = slice_index text 0 == 76 || slice_index text 0 == 91
 
 abbrev pub gives_of : List ℕ → Gives
 gives_of text = if bytes_eq text (codes "V") then Nothing else (if is_reference text then Object else Number)
@@ -33,15 +30,6 @@ is_zero (negsuc n) = false
 
 abbrev pub lock_no : Option ℕ → Option LockNo
 lock_no slot = option_map (λ l. record { 0 = l }) slot
-
--- the register of the receiver, and of the argument behind it
-abbrev pub receiver_of : Args → ℕ
-receiver_of (args.List count registers) = slice_index registers 0
-receiver_of (args.Range first count) = first
-
-abbrev pub argument_of : Args → ℕ
-argument_of (args.List count registers) = slice_index registers 1
-argument_of (args.Range first count) = first + 1
 
 abbrev pub call_of : AppParts → LockUse → Args → Option Named → Act
 call_of app usage arguments None = Other

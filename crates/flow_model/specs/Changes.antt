@@ -10,7 +10,7 @@ use Rattle.flow_model.specs.declared.act.Gives.{Gives}
 use Rattle.flow_model.specs.declared.act.Gives.TheVariants.{Nothing, Number, Object}
 use Rattle.flow_model.specs.declared.act.Act.{Act}
 use Rattle.flow_model.specs.declared.act.Act.TheVariants.{Nop, ReturnVoid, TakeResult, WriteZero, WriteNonzero, WriteText, CheckCast, ReadStatic, WriteStatic, Call, Other}
-use Rattle.flow_model.specs.Acts.{receiver_of}
+use Rattle.dalvik.specs.Calls.{receiver_of}
 
 abbrev pub tag_in : List Tag → ℕ → Tag
 tag_in row r = slice_index_or row r Bot

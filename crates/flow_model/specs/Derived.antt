@@ -1,6 +1,6 @@
 -- What rules derive. A rule is a relation: the facts that an instance of it needs, and the fact that it leads to.
 use Rattle.std.specs.Prelude.{◌≡◌, ◌⊎◌, Bool, true, List, [], ◌∷◌}
-use Rattle.flow_model.specs.Facts.{Fact}
+use Rattle.app_model.specs.Facts.{Fact}
 
 -- a set of facts, as a test
 abbrev pub Set : Type 0

@@ -1,6 +1,5 @@
 pub mod Derived
-pub mod Facts
-pub mod Masks
+pub mod Images
 pub mod Status
 pub mod Tags
 pub mod Acts

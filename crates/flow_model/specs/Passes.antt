@@ -8,9 +8,9 @@ use Rattle.app_model.specs.declared.lock_use.LockUse.{LockUse}
 use Rattle.app_model.specs.declared.lock_use.LockUse.TheVariants.{Plain, Make, Acquire, Release, IsHeld, Mode, Wrong}
 use Rattle.flow_model.specs.declared.act.Act.{Act}
 use Rattle.flow_model.specs.declared.act.Act.TheVariants.{Nop, ReturnVoid, TakeResult, WriteZero, WriteNonzero, WriteText, CheckCast, ReadStatic, WriteStatic, Call, Other}
-use Rattle.flow_model.specs.Acts.{receiver_of, argument_of}
+use Rattle.dalvik.specs.Calls.{receiver_of, argument_of}
 use Rattle.flow_model.specs.Changes.{tag_in}
-use Rattle.flow_model.specs.Masks.{in_mask}
+use Rattle.app_model.specs.Masks.{in_mask}
 use Rattle.flow_model.specs.Status.{acquire_passes, acquire_throws, release_passes, release_throws, is_held_passes, call_throws, mode_passes, mode_throws, store_passes, null_passes, zero_if_null, nonzero_if_null}
 
 -- the mask of one status

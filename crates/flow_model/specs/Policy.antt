@@ -7,21 +7,15 @@ use Rattle.app_model.specs.Components.{edge_at, callback_at, exits_at}
 use Rattle.flow_model.specs.declared.act.Act.{Act}
 use Rattle.flow_model.specs.declared.policy.Violation.{Violation}
 use Rattle.flow_model.specs.declared.act.Act.TheVariants.{Call}
-use Rattle.flow_model.specs.Acts.{act_at, receiver_of}
+use Rattle.dalvik.specs.Calls.{receiver_of}
+use Rattle.flow_model.specs.Acts.{act_at}
 use Rattle.flow_model.specs.Changes.{tag_in}
-use Rattle.flow_model.specs.Facts.{Fact, View}
-use Rattle.flow_model.specs.Masks.{in_mask}
+use Rattle.app_model.specs.Facts.{Fact, View}
+use Rattle.app_model.specs.Masks.{in_mask, is_held}
 use Rattle.flow_model.specs.Derived.{Set, HasAll, Derived}
 use Rattle.flow_model.specs.Passes.{is_field}
 use Rattle.flow_model.specs.Rules.{Rules, Carries}
 use Rattle.flow_model.specs.Subject.{SubjectParts}
-
--- the statuses C1, C2, CT, U1 and L
-abbrev pub held_statuses : ℕ
-held_statuses = 0xdc
-
-abbrev pub is_held : ℕ → Bool
-is_held s = in_mask held_statuses s
 
 -- an acquire of what lock field l holds
 abbrev pub acquires : ℕ → Option Act → List Tag → Bool

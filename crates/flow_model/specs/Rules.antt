@@ -5,8 +5,8 @@ use Rattle.app_model.specs.Words.{successor_at, handler_at, leaves_at}
 use Rattle.app_model.specs.Components.{edge_at, callback_at}
 use Rattle.flow_model.specs.declared.act.Act.TheVariants.{ReturnVoid}
 use Rattle.flow_model.specs.Acts.{act_at}
-use Rattle.flow_model.specs.Facts.{Fact, View, At, Ret, Exc}
-use Rattle.flow_model.specs.Masks.{in_mask}
+use Rattle.app_model.specs.Facts.{Fact, View, At, Ret, Exc}
+use Rattle.app_model.specs.Masks.{in_mask}
 use Rattle.flow_model.specs.Derived.{Either}
 use Rattle.flow_model.specs.Subject.{SubjectParts, Masks, status_masks, own_operation}
 

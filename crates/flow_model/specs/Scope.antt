@@ -1,16 +1,16 @@
 -- Tests of the scope rules on one instruction, by the tags before it.
-use Rattle.std.specs.Prelude.{ℕ, ◌+◌, nat_le, Bool, true, false, if◌then◌else◌, ◌&&◌, ◌||◌, List, Option, Some, None, slice_index}
+use Rattle.dalvik.specs.Calls.{args_len, arg_at}
+use Rattle.std.specs.Prelude.{ℕ, nat_le, Bool, true, false, if◌then◌else◌, ◌&&◌, ◌||◌, List, Option, Some, None}
 use Rattle.ns_base.specs.declared.rows.LockNo.{LockNo}
 use Rattle.app_model.specs.declared.tag.Tag.{Tag}
 use Rattle.app_model.specs.declared.tag.Tag.TheVariants.{Bot, Zero, Solid, Held, Any, Field, New, Mixed}
-use Rattle.app_model.specs.declared.ins.Args.{Args}
-use Rattle.app_model.specs.declared.ins.Args.TheVariants as args
+use Rattle.dalvik.specs.declared.ins.Args.{Args}
 use Rattle.app_model.specs.declared.lock_use.LockUse.TheVariants.{Wrong}
 use Rattle.flow_model.specs.declared.act.Act.{Act}
 use Rattle.flow_model.specs.declared.act.Act.TheVariants.{WriteStatic, Call}
-use Rattle.flow_model.specs.Acts.{receiver_of}
+use Rattle.dalvik.specs.Calls.{receiver_of}
 use Rattle.flow_model.specs.Changes.{tag_in}
-use Rattle.flow_model.specs.Masks.{any_below}
+use Rattle.app_model.specs.Masks.{any_below}
 use Rattle.flow_model.specs.Passes.{is_lock_call, is_slot}
 
 -- ---- escapes
@@ -29,17 +29,9 @@ abbrev pub is_new : Tag → Bool
 is_new (New s) = true
 is_new tag = false
 
-abbrev pub arg_count : Args → ℕ
-arg_count (args.List count registers) = count
-arg_count (args.Range first count) = count
-
-abbrev pub arg_at : Args → ℕ → ℕ
-arg_at (args.List count registers) k = slice_index registers k
-arg_at (args.Range first count) k = first + k
-
 -- an argument of that number or a later one may be a lock
 abbrev pub passes_lock : List Tag → Args → ℕ → Bool
-passes_lock row arguments from = any_below (λ k. nat_le from k && may_be_lock (tag_in row (arg_at arguments k))) (arg_count arguments)
+passes_lock row arguments from = any_below (λ k. nat_le from k && may_be_lock (tag_in row (arg_at arguments k))) (args_len arguments)
 
 -- the receiver of a lock call may be what a field holds
 abbrev pub escapes_as_receiver : Tag → Bool

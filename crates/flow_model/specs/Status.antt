@@ -1,6 +1,4 @@
--- The statuses of a lock field, and the status table: for each operation, and each status before it, the mask of
--- the statuses after it. A is no lock; C0, C1, C2, CT a counted lock with count 0, 1, 2, more; U0, U1 an uncounted
--- one with count zero, above zero; L a lock that was in the field, is not in it now, and has a count above zero.
+-- The status table: for each operation, and each status before it, the mask of the statuses after it.
 use Rattle.std.specs.Prelude.{ℕ, [], ◌∷◌, slice_index}
 use Rattle.app_model.specs.declared.tag.Tag.{Tag}
 use Rattle.app_model.specs.declared.tag.Tag.TheVariants.{Bot, Zero, Solid, Held, Any, Field, New, Mixed}

@@ -1,12 +1,14 @@
 //! What an instruction does.
 ghost use Rattle.std.specs.Prelude.{◌≡◌, ◌<◌, if◌then◌else◌, length, Some};
-ghost use Rattle.app_model.specs.Registers.{is_wide_const};
-ghost use Rattle.app_model.specs.LockUse.{is_virtual_call};
+ghost use Rattle.dalvik.specs.Registers.{is_wide_const};
+ghost use Rattle.dalvik.specs.Calls.{is_virtual_call};
 ghost use Rattle.app_model.specs.Slots.{slot_at};
 ghost use Rattle.app_model.specs.Words.{code_len};
+ghost use Rattle.dalvik.specs.Descriptors.{is_reference};
 ghost use Rattle.flow_model.specs.Acts as spec;
 
-use app_model::{App, Args, Ins, LockUse, Named, opcode};
+use app_model::{App, LockUse, Named};
+use dalvik::{Args, Ins, opcode};
 use ns_base::{LockNo, MethodNo};
 
 /// What a call gives, by the result type of its prototype.
@@ -149,7 +151,7 @@ fn gives_of(text: &[u8]) -> Gives
 
 // Whether a descriptor is that of a class or an array.
 fn is_reference(text: &[u8]) -> bool
-    ensures { result ≡ spec.is_reference text.now }
+    ensures { result ≡ is_reference text.now }
 {
     match text {
         [first, ..] => *first == b'L' || *first == b'[',

@@ -1,6 +1,7 @@
 //! The status table on masks: each call acts on each status of the mask by the table.
 ghost use Rattle.std.specs.Prelude.{◌≡◌, ◌<◌, ◌+◌, ℕ, slice_index};
-ghost use Rattle.flow_model.specs.Masks.{in_mask, IsIn, IsImage, IsImageBelow, IsCut};
+ghost use Rattle.app_model.specs.Masks.{in_mask, IsIn};
+ghost use Rattle.flow_model.specs.Images.{IsImage, IsCut, IsImageBelow};
 ghost use Rattle.flow_model.specs.Status.{acquire_passes, acquire_throws, release_passes, release_throws, is_held_passes, call_throws, mode_passes, mode_throws, store_passes, null_passes, zero_if_null, nonzero_if_null, zero_if_held, nonzero_if_held};
 
 use crate::status;

@@ -1,16 +1,17 @@
 //! With which statuses of the lock under solution an instruction goes on, and with which it throws.
 ghost use Rattle.std.specs.Prelude.{◌≡◌, ◌<◌, ◌+◌, Some, slice_index};
-ghost use Rattle.flow_model.specs.Acts as acts;
+ghost use Rattle.dalvik.specs.Calls.{receiver_of, argument_of};
 ghost use Rattle.flow_model.specs.Changes as changes;
 ghost use Rattle.flow_model.specs.Passes as spec;
 ghost use Rattle.flow_model.specs.Policy as policy;
 ghost use Rattle.flow_model.specs.Status as table;
-ghost use Rattle.flow_model.specs.Masks.{in_mask};
+ghost use Rattle.app_model.specs.Masks.{in_mask};
 
 use crate::act::Act;
 use crate::masks::has_status;
 use crate::status;
-use app_model::{Args, LockUse, Tag};
+use app_model::{LockUse, Tag};
+use dalvik::Args;
 use ns_base::LockNo;
 
 /// The statuses, as a mask, with which an act leads to its successor number `to` from a status.
@@ -106,7 +107,7 @@ pub fn tag_in(row: &[Tag], register: u32) -> Tag
 
 /// The tag of a call's receiver.
 pub(crate) fn receiver_tag(row: &[Tag], args: &Args) -> Tag
-    ensures { result ≡ changes.tag_in row.now (acts.receiver_of args.now) }
+    ensures { result ≡ changes.tag_in row.now (receiver_of args.now) }
 {
     match args {
         Args::List { registers, .. } => tag_in(row, registers[0]),
@@ -116,7 +117,7 @@ pub(crate) fn receiver_tag(row: &[Tag], args: &Args) -> Tag
 
 // The tag of the argument behind the receiver.
 fn argument_tag(row: &[Tag], args: &Args) -> Tag
-    ensures { result ≡ changes.tag_in row.now (acts.argument_of args.now) }
+    ensures { result ≡ changes.tag_in row.now (argument_of args.now) }
 {
     match args {
         Args::List { registers, .. } => tag_in(row, registers[1]),

@@ -2,10 +2,12 @@
 ghost use Rattle.std.specs.Prelude.{◌≡◌, ◌<◌, ◌≤◌, ◌&&◌, nat_le, Some};
 ghost use Rattle.flow_model.specs.Scope as spec;
 ghost use Rattle.flow_model.specs.Changes.{tag_in};
+ghost use Rattle.dalvik.specs.Calls.{args_len, arg_at};
 
 use crate::act::Act;
 use crate::passes::{is_lock_call, is_slot, receiver_tag, tag_in};
-use app_model::{Args, LockUse, Tag};
+use app_model::{LockUse, Tag};
+use dalvik::Args;
 use ns_base::LockNo;
 
 /// Whether a lock goes where it is not followed: into a call, another field, or a lock field that does
@@ -69,13 +71,13 @@ fn passes_lock(row: &[Tag], args: &Args, from: u32) -> bool
 }
 
 fn is_lock_argument(row: &[Tag], args: &Args, from: u32, k: u32) -> bool
-    ensures { result ≡ (nat_le from k && spec.may_be_lock (tag_in row.now (spec.arg_at args.now k))) }
+    ensures { result ≡ (nat_le from k && spec.may_be_lock (tag_in row.now (arg_at args.now k))) }
 {
     from <= k && may_be_lock(argument_tag(row, args, k))
 }
 
 fn arg_count(args: &Args) -> u32
-    ensures { result ≡ spec.arg_count args.now }
+    ensures { result ≡ args_len args.now }
 {
     match args {
         Args::List { count, .. } => u32::from(*count),
@@ -85,7 +87,7 @@ fn arg_count(args: &Args) -> u32
 
 // The tag of an argument.
 fn argument_tag(row: &[Tag], args: &Args, k: u32) -> Tag
-    ensures { result ≡ tag_in row.now (spec.arg_at args.now k) }
+    ensures { result ≡ tag_in row.now (arg_at args.now k) }
 {
     match args {
         Args::List { registers, .. } => match registers.get(k as usize) {

@@ -5,7 +5,8 @@ use crate::{
     after_store, apply, apply_thrown, held_test, image, is_escape, is_own, is_wrong_call, join,
     null_test, pass_mask, stores_new, tag_in, throws,
 };
-use app_model::{Args, LockUse, Tag};
+use app_model::{LockUse, Tag};
+use dalvik::Args;
 use ns_base::LockNo;
 
 const A: u8 = 0x01;

@@ -4,11 +4,11 @@ use Rattle.std.specs.List.{All, cons_option}
 use Rattle.std.proofs.lemmas.Bool.Decides.{nat_tests}
 use Rattle.std.proofs.lemmas.List.{length-take}
 use Rattle.std.proofs.lemmas.List.FromFn.{length-map-range_with_len}
-use Rattle.app_model.specs.declared.ins.Ins.{Ins}
-use Rattle.app_model.specs.declared.ins.Ins.TheVariants as ins
-use Rattle.app_model.specs.declared.body.Place.{Place}
-use Rattle.app_model.specs.Body.{IsBody, IsSoundPlace, IsSuccessorCount}
-use Rattle.app_model.specs.Registers.{registers_of}
+use Rattle.dalvik.specs.declared.ins.Ins.{Ins}
+use Rattle.dalvik.specs.declared.ins.Ins.TheVariants as ins
+use Rattle.dalvik.specs.declared.body.Place.{Place}
+use Rattle.dalvik.specs.Body.{IsBody, IsSoundPlace, IsSuccessorCount}
+use Rattle.dalvik.specs.Registers.{registers_of}
 use Rattle.dalvik_decode.specs.declared.faults.CodeFault.{CodeFault}
 use Rattle.dalvik_decode.specs.declared.payloads.Head.{Head}
 use Rattle.dalvik_decode.specs.declared.payloads.Head.TheVariants as head

@@ -2,7 +2,7 @@
 use Rattle.std.proofs.Common.{◌≡◌, ℕ, ◌+◌, ◌<◌, ◌≤◌, List, [], ◌∷◌, ◌++◌, length, get_or, Result, Ok, Err, refl, ap, sym, ◌∙◌, append_assoc, append-nil, arith}
 use Rattle.std.specs.List.{AllPairs}
 use Rattle.std.proofs.lemmas.List.{get_or_default}
-use Rattle.app_model.specs.declared.body.Place.{Place}
+use Rattle.dalvik.specs.declared.body.Place.{Place}
 use Rattle.dalvik_decode.specs.declared.faults.CodeFault.{CodeFault}
 use Rattle.dex_code.specs.Content.{CodeContent}
 use Rattle.dex_code.specs.declared.code.TryRow.{TryRow}

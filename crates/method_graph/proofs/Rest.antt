@@ -14,7 +14,7 @@ use Rattle.dalvik_decode.specs.Decoding.{decoded, decoded_at, has_too_many}
 use Rattle.dalvik_decode.specs.Operands.{opcode_of, operands_of}
 use Rattle.dalvik_decode.specs.Instructions.{instruction_of}
 use Rattle.dalvik_decode.specs.Payloads.{head_from, units_under, payload_len_at}
-use Rattle.app_model.specs.declared.ins.Ins.{Ins}
+use Rattle.dalvik.specs.declared.ins.Ins.{Ins}
 use Rattle.method_graph.specs.declared.sweep.Piece.TheVariants.{Payload, Broken}
 use Rattle.method_graph.specs.declared.sweep.Row.{Row}
 use Rattle.method_graph.specs.Sweep.{is_ident, payload_piece, instruction_piece, piece_at, next_of, row_at, rows_at, rows_from, sweep_of}

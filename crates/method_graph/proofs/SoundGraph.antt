@@ -1,10 +1,10 @@
 -- What holds of the instructions of a method's graph.
 use Rattle.std.proofs.Common.{◌≡◌, ◌+◌, ◌<◌, ◌≤◌, ℕ, zero, suc, Bool, true, false, cond, nat_eq, nat_lt, List, [], ◌∷◌, length, get_or, Option, None, Some, Result, Ok, Err, refl, sym, subst, arith}
 use Rattle.std.specs.List.{All}
-use Rattle.app_model.specs.declared.ins.Ins.{Ins}
-use Rattle.app_model.specs.declared.body.Place.{Place}
-use Rattle.app_model.specs.Body.{BodyRows, IsBody}
-use Rattle.app_model.specs.Registers.{registers_of}
+use Rattle.dalvik.specs.declared.ins.Ins.{Ins}
+use Rattle.dalvik.specs.declared.body.Place.{Place}
+use Rattle.dalvik.specs.Body.{BodyRows, IsBody}
+use Rattle.dalvik.specs.Registers.{registers_of}
 use Rattle.dalvik_decode.specs.declared.faults.CodeFault.{CodeFault}
 use Rattle.dalvik_decode.specs.declared.faults.CodeFault.TheVariants.{TryTarget, FallsOff, InsSize}
 use Rattle.dex_code.specs.Content.{CodeContent}

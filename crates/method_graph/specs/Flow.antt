@@ -1,12 +1,12 @@
 -- Where control goes from an instruction.
 use Rattle.std.specs.Prelude.{ℕ, ℤ, ◌+◌, ◌%◌, ◌^◌, ◌==◌, ◌&&◌, not, Bool, true, false, List, [], ◌∷◌, if◌then◌else◌, Option, Some, None, Result, Ok, Err}
 use Rattle.std.specs.Int.{cast_unsigned, w32}
-use Rattle.app_model.specs.declared.ins.Ins.{Ins}
-use Rattle.app_model.specs.declared.ins.Ins.TheVariants as ins
+use Rattle.dalvik.specs.declared.ins.Ins.{Ins}
+use Rattle.dalvik.specs.declared.ins.Ins.TheVariants as ins
 use Rattle.dalvik_decode.specs.declared.faults.CodeFault.{CodeFault}
 use Rattle.dalvik_decode.specs.declared.faults.CodeFault.TheVariants.{Target, FallsOff, PayloadKind}
 use Rattle.dalvik_decode.specs.declared.ident.TheConstants.{PACKED_SWITCH_PAYLOAD, SPARSE_SWITCH_PAYLOAD, FILL_ARRAY_DATA_PAYLOAD}
-use Rattle.app_model.specs.declared.opcode.TheConstants.{PACKED_SWITCH}
+use Rattle.dalvik.specs.declared.opcode.TheConstants.{PACKED_SWITCH}
 use Rattle.dalvik_decode.specs.Payloads.{Content, Packed, Sparse, Array, content_at}
 use Rattle.method_graph.specs.declared.sweep.Row.{Row}
 use Rattle.method_graph.specs.declared.sweep.Found.{Found}

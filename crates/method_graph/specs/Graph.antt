@@ -1,9 +1,9 @@
 -- The control flow of a method, with the first fault: by pc, and at one pc in the order of the faults.
 use Rattle.std.specs.Prelude.{ℕ, ◌==◌, nat_lt, not, bit_and, Bool, List, [], ◌∷◌, if◌then◌else◌, Option, Some, None, Result, Ok, Err}
-use Rattle.app_model.specs.declared.ins.Ins.{Ins}
-use Rattle.app_model.specs.declared.body.Place.{Place}
-use Rattle.app_model.specs.Body.{BodyRows}
-use Rattle.app_model.specs.Registers.{registers_of}
+use Rattle.dalvik.specs.declared.ins.Ins.{Ins}
+use Rattle.dalvik.specs.declared.body.Place.{Place}
+use Rattle.dalvik.specs.Body.{BodyRows}
+use Rattle.dalvik.specs.Registers.{registers_of}
 use Rattle.dalvik_decode.specs.declared.faults.CodeFault.{CodeFault}
 use Rattle.dalvik_decode.specs.declared.faults.CodeFault.TheVariants.{BadOpcode, Truncated, BadPayload, Register, Operand, ArgCount, Target, FallsOff, TryTarget, PayloadKind, InsSize, Memory}
 use Rattle.dex_code.specs.declared.code.Handler.{Handler}

@@ -2,9 +2,10 @@
 use Rattle.std.specs.Prelude.{ℕ, ◌≡◌, ◌<◌, ◌^◌, ◌+◌, ◌==◌, nat_lt, Bool, true, List, if◌then◌else◌, Option, Some, None}
 use Rattle.std.specs.BTreeMap.{BTreeMap, get}
 use Rattle.std.specs.Ordering.{nat_cmp}
-use Rattle.app_model.specs.declared.ins.Ins.{Ins}
-use Rattle.app_model.specs.declared.ins.Ins.TheVariants as ins
-use Rattle.app_model.specs.Calls.{args_len, is_static_call, words_of}
+use Rattle.dalvik.specs.declared.ins.Ins.{Ins}
+use Rattle.dalvik.specs.declared.ins.Ins.TheVariants as ins
+use Rattle.dalvik.specs.Descriptors.{words_of}
+use Rattle.dalvik.specs.Calls.{args_len, is_static_call}
 use Rattle.dex_tables.specs.Rows.{string_count, type_count, field_count, method_count, type_name, proto_params, method_proto, list_size, list_entry}
 use Rattle.dex_tables.specs.Sound.{sum_below}
 use Rattle.method_graph.specs.declared.operands.Named.{Named}

@@ -1,6 +1,6 @@
 -- The linear sweep: what stands one after another in the code units, from the front.
 use Rattle.std.specs.Prelude.{ℕ, zero, suc, ◌≡◌, ◌≤◌, slice_index_or, ◌+◌, ◌==◌, nat_lt, ◌||◌, Bool, List, [], ◌∷◌, length, slice_index, if◌then◌else◌, Option, Some, None, Result, Ok, Err}
-use Rattle.app_model.specs.declared.ins.Ins.{Ins}
+use Rattle.dalvik.specs.declared.ins.Ins.{Ins}
 use Rattle.dalvik_decode.specs.declared.faults.CodeFault.{CodeFault}
 use Rattle.dalvik_decode.specs.declared.faults.CodeFault.TheVariants.{BadPayload}
 use Rattle.dalvik_decode.specs.declared.ident.TheConstants.{PACKED_SWITCH_PAYLOAD, SPARSE_SWITCH_PAYLOAD, FILL_ARRAY_DATA_PAYLOAD}

@@ -7,7 +7,7 @@ ghost use Rattle.dalvik_decode.specs.Payloads.{content_at, content_of};
 ghost use Rattle.dalvik_decode.specs.declared.faults.CodeFault.TheVariants.{Memory};
 
 use crate::sweep::{Found, Sweep};
-use app_model::{Few, Ins, opcode};
+use dalvik::{Few, Ins, opcode};
 use dalvik_decode::{CodeFault, Payload, ident, read_payload};
 use std::alloc::Global;
 

@@ -1,7 +1,7 @@
 //! The control flow of a method.
 ghost use Rattle.std.specs.Prelude.{◌≡◌, ◌<◌, ◌≤◌, ◌+◌, ◌≢◌, ℕ, [], ◌∷◌, ◌++◌, Ok, Err, None, length, slice_index_or, IfOk, IfErr};
 ghost use Rattle.std.specs.List.{AllPairs};
-ghost use Rattle.app_model.specs.Body.{IsBody};
+ghost use Rattle.dalvik.specs.Body.{IsBody};
 ghost use Rattle.dex_tables.specs.Content.{AreTablesOf};
 ghost use Rattle.dex_tables.specs.Rows.{method_count};
 ghost use Rattle.method_graph.specs.Exact.{IsExact, IsPutBehind};
@@ -17,7 +17,7 @@ use crate::operands::{ParamSums, find_arguments, fits_args, past_operand};
 use crate::registers::past_named;
 use crate::sweep::{Found, Piece, Row, Sweep, sweep_units};
 use crate::tries::{advance, find_bad_target, find_handlers, find_try, leaves_from, take_handlers};
-use app_model::{Body, Ins, Place, access};
+use dalvik::{Body, Ins, Place, access};
 use dalvik_decode::CodeFault;
 use dex_code::{CodeItem, TryRow};
 use dex_tables::Tables;

@@ -2,10 +2,11 @@
 ghost use Rattle.std.specs.Prelude.{◌≡◌, ◌<◌, ◌≤◌, ◌*◌, ◌^◌, None, IfOk};
 ghost use Rattle.dex_tables.specs.Content.{AreTablesOf};
 ghost use Rattle.dex_tables.specs.Rows.{list_size, list_entry, method_count, method_proto, proto_count, proto_params, type_count, type_name};
-ghost use Rattle.app_model.specs.Calls.{args_len, is_static_call, words_of};
+ghost use Rattle.dalvik.specs.Descriptors.{words_of};
+ghost use Rattle.dalvik.specs.Calls.{args_len, is_static_call};
 ghost use Rattle.method_graph.specs.Operands.{AreSums, argument_words, has_its_args, named_of, param_type, param_words, params_words, past_table, unless_below};
 
-use app_model::{Args, Ins, opcode};
+use dalvik::{Args, Ins, opcode};
 use dex_tables::{Tables, string_bytes};
 use std::alloc::AllocError;
 use std::collections::BTreeMap;

@@ -1,10 +1,10 @@
 //! The registers that an instruction names.
 ghost use Rattle.std.specs.Prelude.{◌≡◌, ◌∷◌, ◌++◌, [], length, take, Bool};
 ghost use Rattle.std.specs.List.{range_with_len};
-ghost use Rattle.app_model.specs.Registers.{args_of, is_between, is_wide_binary, is_wide_const, is_wide_move, is_wide_unary, pair_if, registers_of};
+ghost use Rattle.dalvik.specs.Registers.{args_of, is_between, is_wide_binary, is_wide_const, is_wide_move, is_wide_unary, pair_if, registers_of};
 ghost use Rattle.method_graph.specs.Registers.{first_past};
 
-use app_model::{Args, Ins, opcode};
+use dalvik::{Args, Ins, opcode};
 
 /// Whether the opcode is one of a run.
 fn is_in(first: u8, last: u8, op: u8) -> bool
@@ -130,7 +130,7 @@ fn past_args(count: u16, args: Args) -> Option<u32>
 }
 
 /// The first register past the end that an instruction names.
-#[tactic(auto, unfolding(app_model::specs::Registers::registers_of))]
+#[tactic(auto, unfolding(dalvik::specs::Registers::registers_of))]
 pub fn past_named(count: u16, ins: Ins) -> Option<u32>
     ensures { result ≡ first_past count (registers_of ins) }
 {

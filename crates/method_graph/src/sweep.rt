@@ -3,7 +3,7 @@ ghost use Rattle.std.specs.Prelude.{◌≡◌, ◌≤◌, ◌<◌, ◌+◌, ◌�
 ghost use Rattle.method_graph.specs.declared.sweep.Found.TheVariants.{Nothing};
 ghost use Rattle.method_graph.specs.Sweep.{IsSweep, is_ident, next_of, piece_at, row_at, found_at, sweep_of, stands, instructions_in};
 
-use app_model::Ins;
+use dalvik::Ins;
 use dalvik_decode::{CodeFault, decode_at, ident, payload_len};
 use std::alloc::{AllocError, Global};
 use std::marker::Model;

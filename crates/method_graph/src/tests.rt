@@ -6,7 +6,7 @@ mod sample;
 use crate::flow::find_successors;
 use crate::registers::past_named;
 use crate::sweep::sweep_units;
-use app_model::{Args, Few, Ins, Place};
+use dalvik::{Args, Few, Ins, Place};
 use dalvik_decode::{CodeFault, decode_at};
 use std::alloc::Global;
 use std::test::Fail;

@@ -9,7 +9,7 @@ ghost use Rattle.dex_code.specs.declared.code.Handler.{Handler};
 
 use crate::operands::name_of;
 use crate::sweep::{Found, Sweep};
-use app_model::Few;
+use dalvik::Few;
 use dex_code::{Handler, TryRow};
 use dex_tables::Tables;
 use std::alloc::{AllocError, Global};

@@ -7,9 +7,9 @@ use Rattle.app_model.specs.declared.component.Edge.{Edge}
 use Rattle.app_model.specs.Components.{ComponentParts, edges_of, edge_of, edge_at, callback_at, exits_at}
 use Rattle.flow_model.specs.Derived.{Set, IsClosed}
 use Rattle.flow_model.specs.Entries.{entry_row}
-use Rattle.flow_model.specs.Facts.{At, View, Ret}
-use Rattle.flow_model.specs.Policy.{AnswersFor, MeetsPolicy, is_held}
-use Rattle.flow_model.specs.Masks.{in_mask}
+use Rattle.app_model.specs.Facts.{View, At, Ret}
+use Rattle.flow_model.specs.Policy.{AnswersFor, MeetsPolicy}
+use Rattle.app_model.specs.Masks.{in_mask, is_held}
 use Rattle.flow_model.specs.Rules.{Inner, Between, V3, V4, by_method, entered, cleared}
 use Rattle.flow_model.specs.Subject.{SubjectParts, status_masks}
 use Rattle.run_model.specs.Heaps.{Value, Heap, status, with_cleared, cleared_cells, is_lost, counter_at, cell, status_of}

@@ -2,7 +2,7 @@
 use Rattle.std.proofs.Common.{◌≡◌, ℕ, suc, Bool, true, false, if◌then◌else◌, List, [], ◌∷◌, ◌++◌, length, map, Option, Some, None, slice_get, refl, sym, ap, ◌∙◌, arith, subst, length-append}
 use Rattle.std.specs.Prelude.{◌==◌, ◌&&◌, nat_le}
 use Rattle.std.proofs.lemmas.Bool.{and_parts, and_from, or_parts, false≢true}
-use Rattle.app_model.specs.declared.ins.Args.{Args}
+use Rattle.dalvik.specs.declared.ins.Args.{Args}
 use Rattle.app_model.specs.declared.tag.Tag.{Tag}
 use Rattle.app_model.specs.declared.tag.Tag.TheVariants as tag
 use Rattle.app_model.specs.declared.lock_use.LockUse.{LockUse}
@@ -11,13 +11,14 @@ use Rattle.app_model.specs.Words.{named_at}
 use Rattle.flow_model.specs.declared.act.Gives.{Gives}
 use Rattle.flow_model.specs.declared.act.Act.{Act}
 use Rattle.flow_model.specs.declared.act.Act.TheVariants.{Call}
-use Rattle.flow_model.specs.Acts.{act_at, receiver_of, argument_of}
+use Rattle.dalvik.specs.Calls.{receiver_of, argument_of, arg_at, args_len}
+use Rattle.flow_model.specs.Acts.{act_at}
 use Rattle.flow_model.specs.Changes.{tag_in, call_change, given_tag}
 use Rattle.flow_model.specs.Derived.{Set}
 use Rattle.flow_model.specs.Entries.{site_at}
-use Rattle.flow_model.specs.Masks.{any_below, in_mask}
+use Rattle.app_model.specs.Masks.{in_mask, any_below}
 use Rattle.flow_model.specs.Passes.{is_lock_call, passes_null_test, throws}
-use Rattle.flow_model.specs.Scope.{arg_count, arg_at, call_escapes, escapes_as_receiver, is_escape, may_be_lock, passes_lock}
+use Rattle.flow_model.specs.Scope.{call_escapes, escapes_as_receiver, is_escape, may_be_lock, passes_lock}
 use Rattle.flow_model.specs.Subject.{SubjectParts}
 use Rattle.run_model.specs.Heaps.{Value, Zero, Nonzero, Object, LockRef, Heap, Lock, cell, is_owned, lock_at, new_lock, status, with_new}
 use Rattle.run_model.specs.Types.{may_receive}
@@ -141,11 +142,11 @@ module _ (x : SubjectParts) (own : ℕ) (set_of : Set) (p : Premises x own set_o
     -- an argument that is a lock may be one by its tag
     given_lock : (from : ℕ) → gives_lock f arguments from ≡ true → passes_lock row arguments from ≡ true
     given_lock from g =
-        any_weaker (λ k. nat_le from k && is_lock_in (register f (arg_at arguments k))) (λ k. nat_le from k && may_be_lock (tag_in row (arg_at arguments k))) (arg_count arguments)
+        any_weaker (λ k. nat_le from k && is_lock_in (register f (arg_at arguments k))) (λ k. nat_le from k && may_be_lock (tag_in row (arg_at arguments k))) (args_len arguments)
         (λ k both. (let b = and_parts (nat_le from k) (is_lock_in (register f (arg_at arguments k))) both in and_from (nat_le from k) (may_be_lock (tag_in row (arg_at arguments k))) b.0 (lock_tag row f.registers t.lo (length h.locks) h t.registers (arg_at arguments k) (register f (arg_at arguments k)) refl b.1))) g
 
     receiver_means : (v : Value) → receiver_in f arguments ≡ Some v → Means (receiver_tag x own set_of p f arguments) v t.lo (length h.locks) h
-    receiver_means v e = tagged_read row f.registers t.lo (length h.locks) h t.registers (receiver_of arguments) v (not_empty (arg_count arguments == 0) (register f (receiver_of arguments)) v e)
+    receiver_means v e = tagged_read row f.registers t.lo (length h.locks) h t.registers (receiver_of arguments) v (not_empty (args_len arguments == 0) (register f (receiver_of arguments)) v e)
 
     -- a call on null
     null_ok : receiver_in f arguments ≡ Some Zero → (usage ≡ Mode → (v : Value) × (register f (argument_of arguments) ≡ Some v)) → Each (IsInside x own set_of) (throws_from x p.at h (f ∷ rest))

@@ -8,7 +8,7 @@ use Rattle.app_model.specs.declared.tag.Tag.TheVariants as tag
 use Rattle.app_model.specs.Components.{ComponentParts}
 use Rattle.app_model.specs.Names.{type_text}
 use Rattle.app_model.specs.Parts.{AppParts, ProtoParts}
-use Rattle.flow_model.specs.Acts.{is_reference}
+use Rattle.dalvik.specs.Descriptors.{is_reference}
 use Rattle.flow_model.specs.Changes.{tag_in, given_tag}
 use Rattle.flow_model.specs.declared.act.Gives.{Gives}
 use Rattle.flow_model.specs.declared.act.Gives.TheVariants as gives

@@ -1,14 +1,14 @@
 -- Runs by computation, of a receiver that makes a wake lock, stores and acquires it, and returns, with and without a
 -- release. No contract speaks of them: they show that the machine moves.
 use Rattle.std.proofs.Common.{◌≡◌, ℕ, true, List, [], ◌∷◌, ◌++◌, Some, None, codes, refl}
-use Rattle.app_model.specs.declared.ins.Ins.TheVariants as ins
-use Rattle.app_model.specs.declared.ins.Args.TheVariants as args
-use Rattle.app_model.specs.declared.body.Place.{Place}
+use Rattle.dalvik.specs.declared.ins.Ins.TheVariants as ins
+use Rattle.dalvik.specs.declared.ins.Args.TheVariants as args
+use Rattle.dalvik.specs.declared.body.Place.{Place}
 use Rattle.app_model.specs.declared.component.Kind.TheVariants.{Receiver}
-use Rattle.app_model.specs.declared.ins.Ins.{Ins}
+use Rattle.dalvik.specs.declared.ins.Ins.{Ins}
 use Rattle.app_model.specs.declared.rows.Operand.{Operand}
 use Rattle.app_model.specs.declared.rows.Operand.TheVariants as operand
-use Rattle.app_model.specs.declared.opcode.TheConstants.{INVOKE_VIRTUAL, MOVE_RESULT_OBJECT, SPUT_OBJECT}
+use Rattle.dalvik.specs.declared.opcode.TheConstants.{INVOKE_VIRTUAL, MOVE_RESULT_OBJECT, SPUT_OBJECT}
 use Rattle.app_model.specs.Components.{callback_at, edge_at}
 use Rattle.app_model.specs.LockUse.{lock_use_at}
 use Rattle.app_model.specs.Names.{is_proto, name_text, result_text, type_text}

@@ -4,8 +4,7 @@ use Rattle.std.proofs.lemmas.List.{length-set}
 use Rattle.std.specs.Prelude.{◌||◌, not, ◌==◌, ◌↔◌}
 use Rattle.std.proofs.lemmas.Bool.{cases_eq, cases_Bool, cases_lt, or_cases, or_left, or_right, and_parts, and_from, eq-eqb, eqb-true, ne_eqb, false≢true, and_right}
 use Rattle.std.proofs.lemmas.List.{get_or-set_same, get_or-set_other, get_or_past, get_or_append_left, get_or-append_right}
-use Rattle.flow_model.specs.Masks.{any_below}
-use Rattle.flow_model.specs.Policy.{is_held}
+use Rattle.app_model.specs.Masks.{any_below, is_held}
 use Rattle.flow_model.proofs.TestLaws.{bool_same, some_below, below_some}
 use Rattle.run_model.proofs.Rows.{some, is_above, held_ok}
 use Rattle.run_model.specs.Heaps.{cell, Lock, Heap, new_lock, lock_at, is_in_cell, is_positive, is_held_lock, is_lost_lock, is_lost, has_held_lock, counter_at, status_of, status, with_new, cleared_cells}

@@ -13,8 +13,8 @@ use Rattle.flow_model.specs.Acts.{act_at}
 use Rattle.flow_model.specs.Changes.{tag_in, after, after_stored, result_cell, stored_change}
 use Rattle.flow_model.specs.Derived.{Set}
 use Rattle.flow_model.specs.Entries.{site_at}
-use Rattle.flow_model.specs.Facts.{Ret}
-use Rattle.flow_model.specs.Masks.{in_mask}
+use Rattle.app_model.specs.Facts.{Ret}
+use Rattle.app_model.specs.Masks.{in_mask}
 use Rattle.flow_model.specs.Passes.{only, stored_passes, write_passes, passes}
 use Rattle.flow_model.specs.Rules.{I1_return}
 use Rattle.flow_model.specs.Scope.{is_escape, may_be_stored, write_escapes}

@@ -4,18 +4,19 @@ use Rattle.std.specs.Prelude.{not, ◌==◌}
 use Rattle.std.proofs.lemmas.Bool.{eqb-true, eqb-false}
 use Rattle.std.proofs.lemmas.List.{length-set}
 use Rattle.ns_base.specs.declared.rows.LockNo.{LockNo}
-use Rattle.app_model.specs.declared.ins.Args.{Args}
+use Rattle.dalvik.specs.declared.ins.Args.{Args}
 use Rattle.app_model.specs.declared.tag.Tag.{Tag}
 use Rattle.app_model.specs.declared.tag.Tag.TheVariants as tag
 use Rattle.app_model.specs.declared.lock_use.LockUse.{LockUse}
 use Rattle.app_model.specs.declared.lock_use.LockUse.TheVariants.{Plain, Make, Acquire, Release, IsHeld, Mode, Wrong}
 use Rattle.flow_model.specs.declared.act.Gives.{Gives}
 use Rattle.flow_model.specs.declared.act.Act.TheVariants.{Call}
-use Rattle.flow_model.specs.Acts.{act_at, receiver_of, argument_of}
+use Rattle.dalvik.specs.Calls.{receiver_of, argument_of}
+use Rattle.flow_model.specs.Acts.{act_at}
 use Rattle.flow_model.specs.Changes.{tag_in, call_change, held_change, held_tag, result_tag, thrown}
 use Rattle.flow_model.specs.Derived.{Set}
 use Rattle.flow_model.specs.Entries.{site_at}
-use Rattle.flow_model.specs.Masks.{in_mask}
+use Rattle.app_model.specs.Masks.{in_mask}
 use Rattle.flow_model.specs.Passes.{passes, only, lock_call_passes, lock_call_throws}
 use Rattle.flow_model.specs.Status.{acquire_passes, release_passes, release_throws, is_held_passes, mode_passes}
 use Rattle.flow_model.specs.Subject.{SubjectParts}

@@ -7,7 +7,7 @@ use Rattle.app_model.specs.declared.tag.Tag.{Tag}
 use Rattle.app_model.specs.declared.tag.Tag.TheVariants as tag
 use Rattle.app_model.specs.declared.lock_use.LockUse.{LockUse}
 use Rattle.app_model.specs.declared.lock_use.LockUse.TheVariants.{Plain, Make, Acquire, Release, IsHeld, Mode, Wrong}
-use Rattle.flow_model.specs.Masks.{in_mask}
+use Rattle.app_model.specs.Masks.{in_mask}
 use Rattle.flow_model.specs.Passes.{only, only_if, lock_call_throws, passes_null_test, fails_null_test, outside_throws, call_throws_with}
 use Rattle.flow_model.specs.Status.{acquire_throws, release_throws, call_throws, mode_throws, mode_passes, zero_if_null}
 use Rattle.flow_model.proofs.MaskLaws.{IsIn-or_left, IsIn-or_right}

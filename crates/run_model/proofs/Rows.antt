@@ -1,9 +1,8 @@
 -- The rows of the status table allow what the machine does.
 use Rattle.std.proofs.Common.{◌≡◌, ℕ, zero, suc, Bool, true, false, Option, Some, None, refl}
 use Rattle.std.specs.Prelude.{◌||◌}
-use Rattle.flow_model.specs.Masks.{in_mask}
+use Rattle.app_model.specs.Masks.{in_mask, is_held}
 use Rattle.flow_model.specs.Passes.{only, only_if}
-use Rattle.flow_model.specs.Policy.{is_held}
 use Rattle.flow_model.specs.Rules.{cleared}
 use Rattle.flow_model.specs.Status.{acquire_passes, acquire_throws, release_passes, release_throws, is_held_passes, call_throws, uncounted_passes, counted_passes, either_passes, store_passes, null_passes, zero_if_null}
 use Rattle.run_model.specs.Heaps.{Counter, status_of, status_by, is_positive}

@@ -1,7 +1,7 @@
 -- What carries every instruction: on to a successor, and a throw.
 use Rattle.std.proofs.Common.{◌≡◌, ℕ, ◌≤◌, true, List, [], ◌∷◌, map, length, Option, Some, None, refl, sym, inl, ⊎_elim, arith, subst, slice_get}
 use Rattle.std.proofs.lemmas.Bool.{cases_Bool}
-use Rattle.app_model.specs.declared.body.Place.{Place}
+use Rattle.dalvik.specs.declared.body.Place.{Place}
 use Rattle.app_model.specs.declared.component.Edge.{Edge}
 use Rattle.app_model.specs.declared.tag.Tag.{Tag}
 use Rattle.app_model.specs.Words.{place_at, successor_at, handler_at, handler_of, leaves_at}
@@ -13,8 +13,8 @@ use Rattle.flow_model.specs.Acts.{act_at}
 use Rattle.flow_model.specs.Changes.{after, thrown}
 use Rattle.flow_model.specs.Derived.{Set, IsClosed}
 use Rattle.flow_model.specs.Entries.{site_at}
-use Rattle.flow_model.specs.Facts.{At}
-use Rattle.flow_model.specs.Masks.{in_mask}
+use Rattle.app_model.specs.Facts.{At}
+use Rattle.app_model.specs.Masks.{in_mask}
 use Rattle.flow_model.specs.Passes.{only, passes, throws}
 use Rattle.flow_model.specs.Rules.{Inner, I1, I2, I3, entered}
 use Rattle.flow_model.specs.Subject.{SubjectParts, status_masks, own_operation, passes_by, throws_by}

@@ -1,6 +1,6 @@
 -- Values, wake locks, what is done to them, and the status of a lock field.
 use Rattle.std.specs.Prelude.{ℕ, zero, suc, Bool, true, false, not, ◌&&◌, ◌==◌, if◌then◌else◌, List, [], ◌∷◌, ◌++◌, length, Option, Some, None, slice_index_or, slice_set}
-use Rattle.flow_model.specs.Masks.{any_below}
+use Rattle.app_model.specs.Masks.{any_below}
 
 pub data Value : Type 0 where
   -- null, or the number zero

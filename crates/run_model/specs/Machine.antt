@@ -6,9 +6,9 @@ use Rattle.std.specs.Prelude.{ℕ, zero, suc, pred, ◌-◌, ◌%◌, Bool, true
 use Rattle.std.specs.List.{range_with_len}
 use Rattle.ns_base.specs.declared.rows.LockNo.{LockNo}
 use Rattle.ns_base.specs.declared.rows.TypeNo.{TypeNo}
-use Rattle.app_model.specs.declared.body.Place.{Place}
+use Rattle.dalvik.specs.declared.body.Place.{Place}
 use Rattle.app_model.specs.declared.component.Edge.{Edge}
-use Rattle.app_model.specs.declared.ins.Args.{Args}
+use Rattle.dalvik.specs.declared.ins.Args.{Args}
 use Rattle.app_model.specs.declared.rows.MethodRow.{MethodRow}
 use Rattle.app_model.specs.declared.lock_use.LockUse.{LockUse}
 use Rattle.app_model.specs.declared.lock_use.LockUse.TheVariants.{Plain, Make, Acquire, Release, IsHeld, Mode, Wrong}
@@ -20,12 +20,13 @@ use Rattle.flow_model.specs.declared.act.Gives.{Gives}
 use Rattle.flow_model.specs.declared.act.Gives.TheVariants as gives
 use Rattle.flow_model.specs.declared.act.Act.{Act}
 use Rattle.flow_model.specs.declared.act.Act.TheVariants.{Nop, ReturnVoid, TakeResult, WriteZero, WriteNonzero, WriteText, CheckCast, ReadStatic, WriteStatic, Call, Other}
-use Rattle.flow_model.specs.Acts.{act_at, is_reference, receiver_of, argument_of}
+use Rattle.dalvik.specs.Calls.{receiver_of, argument_of, arg_at, args_len}
+use Rattle.dalvik.specs.Descriptors.{is_reference}
+use Rattle.flow_model.specs.Acts.{act_at}
 use Rattle.flow_model.specs.Entries.{site_at}
-use Rattle.flow_model.specs.Masks.{any_below}
+use Rattle.app_model.specs.Masks.{any_below}
 use Rattle.flow_model.specs.Passes.{is_lock_call}
 use Rattle.flow_model.specs.Rules.{is_owner}
-use Rattle.flow_model.specs.Scope.{arg_count, arg_at}
 use Rattle.flow_model.specs.Subject.{SubjectParts}
 use Rattle.run_model.specs.Heaps.{Value, Zero, Nonzero, Object, LockRef, Heap, cell, cell_value, held_value, is_lock, is_zero, is_owned, lock_at, with_new, with_count, with_mode, with_stored, with_null, with_cleared}
 use Rattle.run_model.specs.Types.{may_receive}
@@ -151,7 +152,7 @@ write_options x at h f rest None (Some v) = if is_lock v then Over Escape ∷ []
 -- ---- calls
 -- the receiver: a call without arguments has none
 abbrev pub receiver_in : Frame → Args → Option Value
-receiver_in f arguments = if arg_count arguments == 0 then None else register f (receiver_of arguments)
+receiver_in f arguments = if args_len arguments == 0 then None else register f (receiver_of arguments)
 
 abbrev pub is_lock_in : Option Value → Bool
 is_lock_in None = false
@@ -159,7 +160,7 @@ is_lock_in (Some v) = is_lock v
 
 -- an argument of that number or a later one is a lock
 abbrev pub gives_lock : Frame → Args → ℕ → Bool
-gives_lock f arguments from = any_below (λ k. nat_le from k && is_lock_in (register f (arg_at arguments k))) (arg_count arguments)
+gives_lock f arguments from = any_below (λ k. nat_le from k && is_lock_in (register f (arg_at arguments k))) (args_len arguments)
 
 -- release: of a counted lock one less, of another all
 abbrev pub release_options : SubjectParts → Callback → Heap → Frame → List Frame → ℕ → Bool → ℕ → List State

@@ -8,9 +8,9 @@ use Rattle.flow_model.specs.declared.act.Act.{Act}
 use Rattle.flow_model.specs.Acts.{act_at}
 use Rattle.flow_model.specs.Changes.{tag_in, thrown}
 use Rattle.flow_model.specs.Derived.{Set}
-use Rattle.flow_model.specs.Facts.{View, At, Ret}
-use Rattle.flow_model.specs.Masks.{in_mask}
-use Rattle.flow_model.specs.Policy.{AnswersFor, is_held}
+use Rattle.app_model.specs.Facts.{View, At, Ret}
+use Rattle.app_model.specs.Masks.{in_mask, is_held}
+use Rattle.flow_model.specs.Policy.{AnswersFor}
 use Rattle.flow_model.specs.Rules.{entered}
 use Rattle.flow_model.specs.Subject.{SubjectParts}
 use Rattle.run_model.specs.Heaps.{Value, Zero, Nonzero, Object, LockRef, Heap, cell, cell_value, held_value, is_lock, lock_at, status}

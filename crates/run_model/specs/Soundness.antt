@@ -2,7 +2,7 @@
 use Rattle.std.specs.Prelude.{ℕ, ◌≡◌, ◌<◌, true, Some}
 use Rattle.app_model.specs.declared.component.Edge.{Edge}
 use Rattle.app_model.specs.Components.{edge_at, exits_at}
-use Rattle.flow_model.specs.Masks.{in_mask}
+use Rattle.app_model.specs.Masks.{in_mask}
 use Rattle.flow_model.specs.Policy.{AnswersFor}
 use Rattle.flow_model.specs.Subject.{SubjectParts}
 use Rattle.run_model.specs.Heaps.{Heap, lock_at}

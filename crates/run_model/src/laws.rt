@@ -1,7 +1,8 @@
 //! What the flow rules say of the runs of the machine.
 ghost use Rattle.std.specs.Prelude.{◌≡◌, ◌<◌, ◌↔◌, ℕ, List, length, true};
 ghost use Rattle.flow_model.specs.Derived.{Set, IsClosed};
-ghost use Rattle.flow_model.specs.Policy.{MeetsPolicy, is_held};
+ghost use Rattle.app_model.specs.Masks.{is_held};
+ghost use Rattle.flow_model.specs.Policy.{MeetsPolicy};
 ghost use Rattle.flow_model.specs.Rules.{Inner, Rules};
 ghost use Rattle.flow_model.specs.Subject.{SubjectParts, status_masks};
 ghost use Rattle.run_model.specs.Heaps.{Heap, status};

@@ -6,7 +6,8 @@ use Rattle.app_model.specs.declared.tag.Tag.{Tag}
 use Rattle.app_model.specs.Parts.{AppParts}
 use Rattle.flow_model.specs.declared.act.Act.{Act}
 use Rattle.flow_model.specs.Acts.{act_at}
-use Rattle.flow_model.specs.Masks.{in_mask, IsImage}
+use Rattle.app_model.specs.Masks.{in_mask}
+use Rattle.flow_model.specs.Images.{IsImage}
 use Rattle.flow_model.specs.Passes.{passes, only}
 use Rattle.flow_model.specs.Subject.{passes_by}
 use Rattle.flow_model.proofs.MaskLaws.{IsIn-lt, IsIn-bit, IsIn-from}

@@ -7,7 +7,7 @@ use Rattle.app_model.specs.declared.component.Edge.{Edge}
 use Rattle.app_model.specs.Components.{edge_at, creating}
 use Rattle.app_model.specs.Parts.{AppParts}
 use Rattle.flow_model.specs.declared.policy.Violation.{Violation}
-use Rattle.flow_model.specs.Masks.{in_mask}
+use Rattle.app_model.specs.Masks.{in_mask}
 use Rattle.flow_model.specs.Policy.{AreViolations, ComesBefore, IsDerivableViolation}
 use Rattle.flow_model.proofs.TestLaws.{in_mask_below, none_some}
 use Rattle.straight_code.specs.Path.{path_subject, receiver}

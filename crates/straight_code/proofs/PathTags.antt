@@ -2,17 +2,18 @@
 use Rattle.std.proofs.Common.{◌≡◌, ◌⊎◌, ◌<◌, ◌≤◌, ◌+◌, if◌then◌else◌, ℕ, zero, suc, Bool, true, false, List, [], ◌∷◌, length, Option, Some, None, refl, sym, ap, ◌∙◌, subst, inl, inr, ⊎_elim, true≢false, arith, add-one}
 use Rattle.std.proofs.lemmas.Bool.{cases_order, cases_lt}
 use Rattle.ns_base.specs.declared.rows.LockNo.{LockNo}
-use Rattle.app_model.specs.declared.ins.Ins.{Ins}
-use Rattle.app_model.specs.declared.ins.Ins.TheVariants as ins
+use Rattle.dalvik.specs.declared.ins.Ins.{Ins}
+use Rattle.dalvik.specs.declared.ins.Ins.TheVariants as ins
 use Rattle.app_model.specs.declared.tag.Tag.{Tag}
 use Rattle.app_model.specs.declared.component.Edge.{Edge}
 use Rattle.app_model.specs.Parts.{AppParts}
 use Rattle.app_model.specs.Words.{code_len, ins_at, successor_at, handler_at, named_at}
 use Rattle.app_model.specs.Components.{edge_at, callback_at, creating}
 use Rattle.app_model.specs.Slots.{slot_at}
-use Rattle.app_model.specs.Registers.{is_wide_const}
-use Rattle.app_model.specs.LockUse.{lock_use_at, is_virtual_call}
-use Rattle.app_model.specs.declared.ins.Args.{Args}
+use Rattle.dalvik.specs.Registers.{is_wide_const}
+use Rattle.dalvik.specs.Calls.{is_virtual_call}
+use Rattle.app_model.specs.LockUse.{lock_use_at}
+use Rattle.dalvik.specs.declared.ins.Args.{Args}
 use Rattle.app_model.specs.declared.rows.Named.{Named}
 use Rattle.app_model.specs.declared.lock_use.LockUse.{LockUse}
 use Rattle.flow_model.specs.declared.act.Act.{Act}

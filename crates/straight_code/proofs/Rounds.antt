@@ -2,7 +2,8 @@
 use Rattle.std.proofs.Common.{◌≡◌, ℕ, zero, suc, refl, sym, subst, Bool, true, List, bit_or, slice_index, inl, inr, ⊎_elim, arith}
 use Rattle.std.proofs.lemmas.Nat.{le_or_l}
 use Rattle.std.proofs.lemmas.Nat.Bits.{bit_at_above}
-use Rattle.flow_model.specs.Masks.{in_mask, IsImage}
+use Rattle.app_model.specs.Masks.{in_mask}
+use Rattle.flow_model.specs.Images.{IsImage}
 use Rattle.flow_model.proofs.MaskLaws.{IsIn-bit, IsIn-or, IsIn-or_left, IsIn-or_right}
 use Rattle.straight_code.specs.Reached.{IsReached, at_start, by_step, IsRound, steps_of}
 

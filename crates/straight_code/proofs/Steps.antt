@@ -7,7 +7,7 @@ use Rattle.flow_model.specs.declared.act.Act.{Act}
 use Rattle.flow_model.specs.Acts.{act_at}
 use Rattle.flow_model.specs.Changes.{IsSteadyFrom, after, is_steady, tag_in}
 use Rattle.flow_model.specs.Entries.{arguments_row, callback_row, site_at, makes_lock, one_if}
-use Rattle.flow_model.specs.Masks.{any_below}
+use Rattle.app_model.specs.Masks.{any_below}
 use Rattle.flow_model.specs.Policy.{acquires}
 use Rattle.flow_model.specs.Scope.{stores_new}
 use Rattle.flow_model.proofs.TestLaws.{any_below_next}

@@ -1,11 +1,11 @@
 -- Straight-line code of nine opcodes over one static lock field, in method 0 of an application.
 use Rattle.std.specs.Prelude.{ℕ, ◌≡◌, ◌<◌, ◌+◌, ◌==◌, Bool, true, false, ◌&&◌, ◌||◌, [], ◌∷◌, Option, Some, None, codes}
-use Rattle.app_model.specs.declared.ins.Ins.{Ins}
-use Rattle.app_model.specs.declared.ins.Ins.TheVariants as ins
+use Rattle.dalvik.specs.declared.ins.Ins.{Ins}
+use Rattle.dalvik.specs.declared.ins.Ins.TheVariants as ins
 use Rattle.app_model.specs.declared.rows.Named.{Named}
 use Rattle.app_model.specs.declared.lock_use.LockUse.{LockUse}
 use Rattle.app_model.specs.declared.lock_use.LockUse.TheVariants.{Plain, Make, Acquire, Release, IsHeld, Mode, Wrong}
-use Rattle.app_model.specs.declared.opcode.TheConstants.{CONST_4, CONST_STRING, INVOKE_VIRTUAL, MOVE_RESULT_OBJECT, SGET_OBJECT, SPUT_OBJECT}
+use Rattle.dalvik.specs.declared.opcode.TheConstants.{CONST_4, CONST_STRING, INVOKE_VIRTUAL, MOVE_RESULT_OBJECT, SGET_OBJECT, SPUT_OBJECT}
 use Rattle.app_model.specs.Parts.{AppParts}
 use Rattle.app_model.specs.Words.{code_len, ins_at, named_at, successor_at, handler_at}
 use Rattle.app_model.specs.Names.{is_on, is_method, string_name, wake_lock_name}

@@ -8,7 +8,7 @@ use Rattle.flow_model.specs.declared.act.Act.{Act}
 use Rattle.flow_model.specs.Acts.{act_at}
 use Rattle.flow_model.specs.Changes.{after}
 use Rattle.flow_model.specs.Entries.{entry_row, site_at}
-use Rattle.flow_model.specs.Masks.{in_mask, any_below}
+use Rattle.app_model.specs.Masks.{in_mask, any_below}
 use Rattle.flow_model.specs.Policy.{acquires}
 use Rattle.flow_model.specs.Subject.{SubjectParts, passes_by}
 

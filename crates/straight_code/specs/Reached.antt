@@ -1,6 +1,6 @@
 -- What is reached from status 0 by steps.
 use Rattle.std.specs.Prelude.{ℕ, ◌≡◌, ◌⊎◌, ◌≤◌, Bool, true, List, slice_index}
-use Rattle.flow_model.specs.Masks.{in_mask}
+use Rattle.app_model.specs.Masks.{in_mask}
 
 pub data IsReached (step : ℕ → ℕ → Bool) : ℕ → Type 0 where
   at_start : IsReached step 0

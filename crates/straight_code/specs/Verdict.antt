@@ -4,11 +4,11 @@ use Rattle.ns_base.specs.declared.rows.TypeNo.{TypeNo}
 use Rattle.app_model.specs.declared.rows.MethodRow.{MethodRow}
 use Rattle.app_model.specs.Parts.{AppParts, ClassParts}
 use Rattle.app_model.specs.Names.{type_text}
-use Rattle.flow_model.specs.Masks.{in_mask}
+use Rattle.app_model.specs.Masks.{in_mask, is_held}
 use Rattle.flow_model.specs.Derived.{Set, HasAll, IsClosed}
 use Rattle.flow_model.specs.Rules.{Rules}
 use Rattle.flow_model.specs.Subject.{SubjectParts}
-use Rattle.flow_model.specs.Policy.{IsViolation, IsDerivableViolation, AreViolations, is_held}
+use Rattle.flow_model.specs.Policy.{IsViolation, IsDerivableViolation, AreViolations}
 use Rattle.run_model.specs.Machine.{run_of}
 use Rattle.run_model.specs.Soundness.{StandsWell, LeavesNoneHeld}
 use Rattle.flow_model.specs.declared.policy.Violation.{Violation}

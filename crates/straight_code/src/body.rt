@@ -6,7 +6,8 @@ ghost use Rattle.app_model.specs.Slots.{slot_at};
 ghost use Rattle.straight_code.specs.Body as spec;
 ghost use Rattle.straight_code.specs.Body.{IsPlainBody, IsPlainPlace};
 
-use app_model::{App, Ins, LockUse, Named, opcode};
+use app_model::{App, LockUse, Named};
+use dalvik::{Ins, opcode};
 use ns_base::{LockNo, MethodNo};
 
 /// The one method.

@@ -5,7 +5,7 @@ ghost use Rattle.app_model.specs.Words.{code_len};
 ghost use Rattle.flow_model.specs.Acts.{act_at};
 ghost use Rattle.flow_model.specs.Changes.{after, top_after, IsSteadyFrom};
 ghost use Rattle.flow_model.specs.Entries.{callback_row, arguments_row, makes_lock, one_if};
-ghost use Rattle.flow_model.specs.Masks.{any_below};
+ghost use Rattle.app_model.specs.Masks.{any_below};
 ghost use Rattle.flow_model.specs.Scope as scope;
 ghost use Rattle.straight_code.specs.Path.{row_before};
 ghost use Rattle.straight_code.specs.Scope.{IsAllowed, stores_new_at};

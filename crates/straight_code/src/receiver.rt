@@ -4,7 +4,8 @@ ghost use Rattle.straight_code.specs.Receiver as spec;
 ghost use Rattle.straight_code.specs.Verdict.{IsSmallApp};
 
 use crate::body::CALLBACK;
-use app_model::{App, access};
+use app_model::App;
+use dalvik::access;
 use ns_base::{ClassNo, FieldNo};
 
 /// Whether the application is one receiver of this name. Such a one can be judged.

@@ -1,8 +1,7 @@
 //! The judgement of a receiver.
 ghost use Rattle.std.specs.Prelude.{◌≡◌, ◌↔◌, ◌<◌, ◌+◌, ℕ, List, ◌++◌, IfOk, true, length, option_map, Some, []};
 ghost use Rattle.app_model.specs.Words.{code_len};
-ghost use Rattle.flow_model.specs.Masks.{in_mask, any_below};
-ghost use Rattle.flow_model.specs.Policy.{is_held};
+ghost use Rattle.app_model.specs.Masks.{in_mask, any_below, is_held};
 ghost use Rattle.straight_code.specs.Body.{IsPlainBody};
 ghost use Rattle.straight_code.specs.Path.{acquires_at, path_subject};
 ghost use Rattle.straight_code.specs.Verdict.{AreEnds, AreHeld, IsSafe, IsSmallApp, IsVerdict, one_if_in, violations_below};

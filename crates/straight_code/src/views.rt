@@ -1,6 +1,6 @@
 //! The statuses that are reached between callbacks.
 ghost use Rattle.std.specs.Prelude.{◌≡◌, ◌↔◌, ◌≤◌, ◌⊎◌, ℕ, true};
-ghost use Rattle.flow_model.specs.Masks.{in_mask};
+ghost use Rattle.app_model.specs.Masks.{in_mask};
 ghost use Rattle.straight_code.specs.Reached.{IsReached, IsRound, steps_of};
 
 use flow_model::image;

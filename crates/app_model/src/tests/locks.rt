@@ -1,16 +1,16 @@
 //! Calls and fields of wake locks told apart from others, in an application of one method.
 ghost use Rattle.std.specs.Prelude.{◌≡◌, ◌≤◌, ◌<◌, ◌^◌, [], length, IfOk};
 ghost use Rattle.std.specs.List.{All};
-ghost use Rattle.app_model.specs.Body.{IsSoundPlace, IsSuccessorCount};
-ghost use Rattle.app_model.specs.Registers.{registers_of};
+ghost use Rattle.dalvik.specs.Body.{IsSoundPlace, IsSuccessorCount};
+ghost use Rattle.dalvik.specs.Registers.{registers_of};
 ghost use Rattle.app_model.specs.Words.{code_len};
 
-use crate::opcode::{
-    INVOKE_STATIC, INVOKE_VIRTUAL, INVOKE_VIRTUAL_RANGE, SGET, SGET_OBJECT, SPUT_OBJECT,
-};
 use crate::{
     App, AppRows, Args, Body, ClassRow, Few, FieldRow, Ins, LockUse, MethodRow, Named, NamedField,
     Operand, POWER_MANAGER, Place, ProtoRow, STRING, WAKE_LOCK,
+};
+use dalvik::opcode::{
+    INVOKE_STATIC, INVOKE_VIRTUAL, INVOKE_VIRTUAL_RANGE, SGET, SGET_OBJECT, SPUT_OBJECT,
 };
 use ns_base::{ClassNo, FieldNo, LockNo, MethodNo, NameNo, ProtoNo, TypeNo};
 use std::alloc::{AllocError, Global};

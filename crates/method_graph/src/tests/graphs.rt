@@ -1,7 +1,7 @@
 //! Whole graphs, and each fault once.
 use super::has;
 use super::sample::{Code, graph};
-use app_model::Place;
+use dalvik::Place;
 use dalvik_decode::CodeFault;
 use std::alloc::Global;
 use std::test::Fail;

@@ -1,6 +1,6 @@
 //! A small file: the id tables of a receiver that takes a wake lock, and one code item at the end.
 use crate::build_graph;
-use app_model::Body;
+use dalvik::Body;
 use dalvik_decode::CodeFault;
 use dex_bytes::header_from;
 use dex_code::read_code;

@@ -1,7 +1,8 @@
 use Rattle.std.proofs.Common.{◌≡◌, ◌&&◌, nat_le, false}
 use Rattle.flow_model.specs.Changes.{tag_in}
-use Rattle.flow_model.specs.Masks.{any_below}
-use Rattle.flow_model.specs.Scope.{arg_at, may_be_lock}
+use Rattle.app_model.specs.Masks.{any_below}
+use Rattle.dalvik.specs.Calls.{arg_at}
+use Rattle.flow_model.specs.Scope.{may_be_lock}
 use Rattle.flow_model.proofs.scope.passes_lock.Given as goal
 
 abbrev pub invariant-loop-k : goal.invariant-loop-k

@@ -1,5 +1,5 @@
 use Rattle.std.proofs.Common.{◌-◌, ◌≡◌, true}
-use Rattle.flow_model.specs.Masks.{in_mask}
+use Rattle.app_model.specs.Masks.{in_mask}
 use Rattle.straight_code.specs.Reached.{IsRound, steps_of}
 use Rattle.straight_code.proofs.Rounds.{AllReached}
 use Rattle.straight_code.proofs.views.reach.Given as goal

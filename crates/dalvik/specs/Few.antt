@@ -1,7 +1,7 @@
 -- The numbers of a short list.
 use Rattle.std.specs.Prelude.{ℕ, List, [], ◌∷◌}
-use Rattle.app_model.specs.declared.few.Held.{Held}
-use Rattle.app_model.specs.declared.few.Held.TheVariants.{Nothing, One, Two, More}
+use Rattle.dalvik.specs.declared.few.Held.{Held}
+use Rattle.dalvik.specs.declared.few.Held.TheVariants.{Nothing, One, Two, More}
 
 abbrev pub numbers_of : Held → List ℕ
 numbers_of Nothing = []

@@ -1,10 +1,10 @@
 -- The registers that an instruction names, in the order of the bytecode page.
 use Rattle.std.specs.Prelude.{ℕ, List, [], ◌∷◌, ◌++◌, ◌+◌, ◌==◌, nat_le, ◌&&◌, ◌||◌, Bool, true, false, take}
 use Rattle.std.specs.List.{range_with_len}
-use Rattle.app_model.specs.declared.ins.Ins.{Ins}
-use Rattle.app_model.specs.declared.ins.Ins.TheVariants.{Nop, Move, MoveResult, MoveException, ReturnVoid, Return, Const, ConstString, ConstClass, Monitor, CheckCast, InstanceOf, ArrayLength, NewInstance, NewArray, FilledNewArray, FillArrayData, Throw, Goto, Switch, Compare, IfPair, IfZero, ArrayGet, ArrayPut, FieldGet, FieldPut, StaticGet, StaticPut, Invoke, Unary, Binary, BinaryLiteral}
-use Rattle.app_model.specs.declared.ins.Args.{Args}
-use Rattle.app_model.specs.declared.ins.Args.TheVariants as args
+use Rattle.dalvik.specs.declared.ins.Ins.{Ins}
+use Rattle.dalvik.specs.declared.ins.Ins.TheVariants.{Nop, Move, MoveResult, MoveException, ReturnVoid, Return, Const, ConstString, ConstClass, Monitor, CheckCast, InstanceOf, ArrayLength, NewInstance, NewArray, FilledNewArray, FillArrayData, Throw, Goto, Switch, Compare, IfPair, IfZero, ArrayGet, ArrayPut, FieldGet, FieldPut, StaticGet, StaticPut, Invoke, Unary, Binary, BinaryLiteral}
+use Rattle.dalvik.specs.declared.ins.Args.{Args}
+use Rattle.dalvik.specs.declared.ins.Args.TheVariants as args
 
 -- an opcode is one of a run
 abbrev pub is_between : ℕ → ℕ → ℕ → Bool

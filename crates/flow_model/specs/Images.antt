@@ -1,12 +1,6 @@
--- Sets of statuses as masks: status s is in the mask whose bit s is set. There are eight statuses.
-use Rattle.std.specs.Prelude.{◌≡◌, ◌<◌, ℕ, zero, suc, Bool, true, false, nat_lt, ◌&&◌, ◌||◌, ◌==◌}
-use Rattle.std.specs.Int.{bit_at}
-
-abbrev pub in_mask : ℕ → ℕ → Bool
-in_mask mask s = nat_lt s 8 && (bit_at mask s == 1)
-
-abbrev pub IsIn : ℕ → ℕ → Type 0
-IsIn mask s = in_mask mask s ≡ true
+-- Where a column of the status table leads from the statuses of a mask.
+use Rattle.std.specs.Prelude.{◌<◌, ℕ}
+use Rattle.app_model.specs.Masks.{IsIn}
 
 -- the statuses to which a column of the status table leads from those of a mask
 pub record IsImage (column : ℕ → ℕ) (mask image : ℕ) : Type 0 where
@@ -22,8 +16,3 @@ pub record IsCut (mask kept cut : ℕ) : Type 0 where
 pub record IsImageBelow (column : ℕ → ℕ) (mask n image : ℕ) : Type 0 where
   pub there : (s t : ℕ) → s < n → IsIn mask s → IsIn (column s) t → IsIn image t
   pub only : (t : ℕ) → IsIn image t → (s : ℕ) × (s < n) × IsIn mask s × IsIn (column s) t
-
--- some number below n passes the test
-abbrev pub any_below : (ℕ → Bool) → ℕ → Bool
-any_below f zero = false
-any_below f (suc n) = f n || any_below f n

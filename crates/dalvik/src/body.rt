@@ -1,6 +1,6 @@
 //! The code of a method as places: each instruction with where control can go from it.
 ghost use Rattle.std.specs.Prelude.{◌≡◌, ◌<◌, List, length, slice_index_or};
-ghost use Rattle.app_model.specs.Body.{BodyRows, IsBody};
+ghost use Rattle.dalvik.specs.Body.{BodyRows, IsBody};
 
 use crate::few::Few;
 use crate::ins::Ins;
@@ -28,7 +28,7 @@ pub struct Body {
 }
 
 impl Model for Body {
-    ghost use Rattle.app_model.specs.Body.{BodyRows, IsBody};
+    ghost use Rattle.dalvik.specs.Body.{BodyRows, IsBody};
 
     ghost Value = { BodyRows };
 

@@ -1,10 +1,10 @@
 -- The code of a method as places, and what always holds of it.
 use Rattle.std.specs.Prelude.{ℕ, ◌<◌, ◌≤◌, ◌≡◌, ◌^◌, List, [], length, true}
 use Rattle.std.specs.List.{All, AllPairs}
-use Rattle.app_model.specs.declared.ins.Ins.{Ins}
-use Rattle.app_model.specs.declared.ins.Ins.TheVariants.{Nop, ReturnVoid, Return, Throw, Switch, IfPair, IfZero}
-use Rattle.app_model.specs.declared.body.Place.{Place}
-use Rattle.app_model.specs.Registers.{registers_of}
+use Rattle.dalvik.specs.declared.ins.Ins.{Ins}
+use Rattle.dalvik.specs.declared.ins.Ins.TheVariants.{Nop, ReturnVoid, Return, Throw, Switch, IfPair, IfZero}
+use Rattle.dalvik.specs.declared.body.Place.{Place}
+use Rattle.dalvik.specs.Registers.{registers_of}
 
 -- a body's registers, and its places in order
 pub record BodyRows : Type 0 where

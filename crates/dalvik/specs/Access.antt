@@ -1,6 +1,6 @@
 -- What access flags say.
 use Rattle.std.specs.Prelude.{ℕ, ◌==◌, Bool, bit_and, bit_or, not}
-use Rattle.app_model.specs.declared.access.TheConstants.{ABSTRACT, NATIVE}
+use Rattle.dalvik.specs.declared.access.TheConstants.{ABSTRACT, NATIVE}
 
 -- ABSTRACT or NATIVE: the method has no code
 abbrev pub is_bodiless : ℕ → Bool

@@ -21,7 +21,7 @@ pub struct Few {
 
 impl Model for Few {
     ghost use Rattle.std.specs.Prelude.{ℕ, List};
-    ghost use Rattle.app_model.specs.Few.{numbers_of};
+    ghost use Rattle.dalvik.specs.Few.{numbers_of};
 
     ghost Value = { List ℕ };
 

@@ -1,0 +1,6 @@
+pub mod Few
+pub mod Registers
+pub mod Body
+pub mod Calls
+pub mod Descriptors
+pub mod Access

@@ -1,0 +1,23 @@
+//! The Dalvik bytecode as all layers see it: instructions, opcodes, registers, and bodies with their control flow.
+//!
+//! - `ins` has the instructions.
+//! - `opcode` names the opcodes, `access` the access flags.
+//! - `few` is a short list of numbers that mostly takes no heap.
+//! - `body` has the places of a method's code: each instruction with where control can go from it.
+//!
+//! What is said of them stands in `specs/`: `Registers` (which registers an instruction names), `Calls` (its arguments),
+//! `Access` (flags), `Body` (what holds of every body).
+#![tactic(auto)]
+
+pub mod access;
+mod body;
+mod few;
+mod ins;
+pub mod opcode;
+
+pub use body::{Body, Place};
+pub use few::Few;
+pub use ins::{Args, Ins};
+
+#[cfg(test)]
+mod tests;
