@@ -1,8 +1,7 @@
 -- The class hierarchy, by the superclasses and interfaces that the files name: which type is a subtype of another, and
 -- what is found in a class or in the nearest one above it. Types and classes are told by number.
-use Rattle.std.specs.Prelude.{ℕ, zero, suc, ◌≡◌, ◌<◌, ◌⊎◌, ◌==◌, ◌&&◌, ◌||◌, not, Bool, true, false, List, [], ◌∷◌, map, length, Option, Some, None, slice_get, slice_index_or, position, is_none, bit_and, bytes_eq, codes, Contains}
+use Rattle.std.specs.Prelude.{ℕ, zero, suc, ◌==◌, ◌&&◌, ◌||◌, not, Bool, false, List, [], ◌∷◌, map, length, Option, Some, None, slice_get, slice_index_or, position, is_none, bit_and, bytes_eq, codes}
 use Rattle.std.specs.List.{list_any, range_with_len}
-use Rattle.std.specs.Option.{option_and_then}
 use Rattle.ns_base.specs.declared.rows.TypeNo.{TypeNo}
 use Rattle.ns_base.specs.declared.rows.FieldNo.{FieldNo}
 use Rattle.dalvik.specs.declared.access.TheConstants.{ABSTRACT}

@@ -4,6 +4,7 @@ pub mod Parts
 pub mod Words
 pub mod Names
 pub mod LockUse
+pub mod Sites
 pub mod Hierarchy
 pub mod Slots
 pub mod Subtypes

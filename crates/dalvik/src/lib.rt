@@ -1,7 +1,7 @@
 //! The Dalvik bytecode as all layers see it: instructions, opcodes, registers, and bodies with their control flow.
 //!
 //! - `ins` has the instructions.
-//! - `opcode` names the opcodes, `access` the access flags.
+//! - `opcode` names the opcodes, `access` the access flags; `wide` tells the opcodes of pairs.
 //! - `few` is a short list of numbers that mostly takes no heap.
 //! - `body` has the places of a method's code: each instruction with where control can go from it.
 //!
@@ -14,10 +14,12 @@ mod body;
 mod few;
 mod ins;
 pub mod opcode;
+mod wide;
 
 pub use body::{Body, Place};
 pub use few::Few;
 pub use ins::{Args, Ins};
+pub use wide::{is_wide_binary, is_wide_const, is_wide_move, is_wide_unary};
 
 #[cfg(test)]
 mod tests;

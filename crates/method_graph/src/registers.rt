@@ -1,49 +1,10 @@
 //! The registers that an instruction names.
 ghost use Rattle.std.specs.Prelude.{◌≡◌, ◌∷◌, ◌++◌, [], length, take, Bool};
 ghost use Rattle.std.specs.List.{range_with_len};
-ghost use Rattle.dalvik.specs.Registers.{args_of, is_between, is_wide_binary, is_wide_const, is_wide_move, is_wide_unary, pair_if, registers_of};
+ghost use Rattle.dalvik.specs.Registers.{args_of, pair_if, registers_of};
 ghost use Rattle.method_graph.specs.Registers.{first_past};
 
-use dalvik::{Args, Ins, opcode};
-
-/// Whether the opcode is one of a run.
-fn is_in(first: u8, last: u8, op: u8) -> bool
-    ensures { result ≡ is_between first last op }
-{
-    first <= op && op <= last
-}
-
-fn moves_pair(op: u8) -> bool
-    ensures { result ≡ is_wide_move op }
-{
-    is_in(opcode::MOVE_WIDE, opcode::MOVE_WIDE_16, op)
-}
-
-fn makes_pair(op: u8) -> bool
-    ensures { result ≡ is_wide_const op }
-{
-    is_in(opcode::CONST_WIDE_16, opcode::CONST_WIDE_HIGH16, op)
-}
-
-fn gives_pair(op: u8) -> bool
-    ensures { result ≡ is_wide_unary op }
-{
-    is_in(opcode::NEG_LONG, opcode::NOT_LONG, op)
-        || is_in(opcode::NEG_DOUBLE, opcode::INT_TO_LONG, op)
-        || op == opcode::INT_TO_DOUBLE
-        || op == opcode::LONG_TO_DOUBLE
-        || is_in(opcode::FLOAT_TO_LONG, opcode::FLOAT_TO_DOUBLE, op)
-        || op == opcode::DOUBLE_TO_LONG
-}
-
-fn computes_pair(op: u8) -> bool
-    ensures { result ≡ is_wide_binary op }
-{
-    is_in(opcode::ADD_LONG, opcode::USHR_LONG, op)
-        || is_in(opcode::ADD_DOUBLE, opcode::REM_DOUBLE, op)
-        || is_in(opcode::ADD_LONG_2ADDR, opcode::USHR_LONG_2ADDR, op)
-        || is_in(opcode::ADD_DOUBLE_2ADDR, opcode::REM_DOUBLE_2ADDR, op)
-}
+use dalvik::{Args, Ins, is_wide_binary, is_wide_const, is_wide_move, is_wide_unary, opcode};
 
 /// The register, where the method has not so many.
 fn past_one(count: u16, register: u32) -> Option<u32>
@@ -136,9 +97,9 @@ pub fn past_named(count: u16, ins: Ins) -> Option<u32>
 {
     match ins {
         Ins::Nop | Ins::ReturnVoid | Ins::Goto { .. } => None,
-        Ins::Move { op, to, from } => past_pairs(count, moves_pair(op), to, from),
+        Ins::Move { op, to, from } => past_pairs(count, is_wide_move(op), to, from),
         Ins::MoveResult { op, to } => past_pair(count, op == opcode::MOVE_RESULT_WIDE, to),
-        Ins::Const { op, to, .. } => past_pair(count, makes_pair(op), to),
+        Ins::Const { op, to, .. } => past_pair(count, is_wide_const(op), to),
         Ins::MoveException { to }
         | Ins::ConstString { to, .. }
         | Ins::ConstClass { to, .. }
@@ -163,7 +124,7 @@ pub fn past_named(count: u16, ins: Ins) -> Option<u32>
             object,
         ),
         Ins::FieldPut { value, object, .. } => past_two(count, false, value, object),
-        Ins::Unary { op, to, from } => past_two(count, gives_pair(op), to, from),
+        Ins::Unary { op, to, from } => past_two(count, is_wide_unary(op), to, from),
         Ins::BinaryLiteral { to, from, .. } => past_two(count, false, to, from),
         Ins::Compare {
             to,
@@ -188,7 +149,7 @@ pub fn past_named(count: u16, ins: Ins) -> Option<u32>
             to,
             left,
             right,
-        } => past_three(count, computes_pair(op), to, left, right),
+        } => past_three(count, is_wide_binary(op), to, left, right),
         Ins::FilledNewArray { args, .. } | Ins::Invoke { args, .. } => past_args(count, args),
     }
 }

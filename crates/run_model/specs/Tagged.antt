@@ -14,7 +14,7 @@ use Rattle.flow_model.specs.Changes.{tag_in, after, thrown}
 use Rattle.flow_model.specs.Entries.{entry_row, site_at}
 use Rattle.flow_model.specs.Scope.{is_escape, is_wrong_call}
 use Rattle.flow_model.specs.Subject.{SubjectParts}
-use Rattle.flow_model.specs.Tags.{Under}
+use Rattle.act_model.specs.Tags.{Under}
 
 -- a method that the machine may enter: a callback of a listed component
 pub record IsEntered (x : SubjectParts) (m : ℕ) : Type 0 where

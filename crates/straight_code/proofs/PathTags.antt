@@ -23,7 +23,7 @@ use Rattle.flow_model.specs.Changes.{after}
 use Rattle.flow_model.specs.Entries.{site_at}
 use Rattle.flow_model.specs.Scope.{is_escape, is_wrong_call}
 use Rattle.flow_model.specs.Subject.{SubjectParts}
-use Rattle.flow_model.specs.Tags.{itself}
+use Rattle.act_model.specs.Tags.{itself}
 use Rattle.flow_model.proofs.TestLaws.{both, same_number, none_some}
 use Rattle.run_model.specs.Tagged.{IsTagged, IsEntered, IsUnder, leads_on}
 use Rattle.straight_code.specs.Body.{IsPlainBody, is_plain, is_plain_at, is_first_slot}

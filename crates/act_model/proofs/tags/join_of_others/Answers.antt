@@ -1,6 +1,6 @@
 use Rattle.std.proofs.Common.{sym}
-use Rattle.flow_model.proofs.TagLaws.{IsJoin-any, IsJoin-mixed_left, IsJoin-mixed_right}
-use Rattle.flow_model.proofs.tags.join_of_others.Goals as goal
+use Rattle.act_model.proofs.TagLaws.{IsJoin-any, IsJoin-mixed_left, IsJoin-mixed_right}
+use Rattle.act_model.proofs.tags.join_of_others.Goals as goal
 
 pub returns-then-not-is_at_most_any : goal.returns-then-not-is_at_most_any
 returns-then-not-is_at_most_any c = IsJoin-mixed_left _ _ c.requires.differ c.requires.left c.requires.right (sym c.if-not-is_at_most_any.ensures)

@@ -1,6 +1,6 @@
 //! The order of tags.
 ghost use Rattle.std.specs.Prelude.{◌≡◌, ◌≢◌};
-ghost use Rattle.flow_model.specs.Tags.{IsJoin, at_most_any};
+ghost use Rattle.act_model.specs.Tags.{IsJoin, at_most_any};
 
 use app_model::Tag;
 

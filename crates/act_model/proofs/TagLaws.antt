@@ -2,7 +2,7 @@
 use Rattle.std.proofs.Common.{◌≡◌, ◌≢◌, true, false, refl, subst}
 use Rattle.app_model.specs.declared.tag.Tag.{Tag}
 use Rattle.app_model.specs.declared.tag.Tag.TheVariants.{Bot, Zero, Solid, Held, Any, Field, New, Mixed}
-use Rattle.flow_model.specs.Tags.{Under, itself, bot_all, zero_any, solid_any, held_any, all_mixed, IsJoin, at_most_any}
+use Rattle.act_model.specs.Tags.{Under, itself, bot_all, zero_any, solid_any, held_any, all_mixed, IsJoin, at_most_any}
 
 pub IsJoin-same : (a : Tag) → IsJoin a a a
 IsJoin-same a = record { left = itself; right = itself; least = λ t l r. l }

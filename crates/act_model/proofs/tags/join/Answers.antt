@@ -1,8 +1,8 @@
 use Rattle.std.proofs.Common.{◌≡◌, subst, rules}
 use Rattle.app_model.specs.declared.tag.Tag.{Tag}
-use Rattle.flow_model.specs.Tags.{IsJoin}
-use Rattle.flow_model.proofs.TagLaws.{IsJoin-same, IsJoin-bot_left, IsJoin-bot_right}
-use Rattle.flow_model.proofs.tags.join.Goals as goal
+use Rattle.act_model.specs.Tags.{IsJoin}
+use Rattle.act_model.proofs.TagLaws.{IsJoin-same, IsJoin-bot_left, IsJoin-bot_right}
+use Rattle.act_model.proofs.tags.join.Goals as goal
 
 pub returns-then-eq : goal.returns-then-eq
 returns-then-eq c = let same : c.args.a ≡ c.args.b = search rules in subst (λ (t : Tag). IsJoin c.args.a t c.args.a) same (IsJoin-same c.args.a)
