@@ -1,5 +1,5 @@
--- A reading in steps: each step gives a value, or stops the reading with a fault. `E` is any type of faults; a test
--- `is_memory` on it tells the faults that only mean that memory ran out.
+-- A reading in steps: each step gives a value, or stops the reading with a fault. `E` is any type of faults; the crate
+-- of that type has a test `is_memory`, by cases, for those that only mean that memory ran out.
 use Rattle.std.specs.Prelude.{ℕ, zero, suc, ◌≡◌, Bool, true, false, List, [], ◌∷◌, ◌++◌, Result, Ok, Err}
 
 -- the next step, on what this one gave; a fault stops the reading. A `do` block is a chain of these

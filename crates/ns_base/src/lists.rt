@@ -80,11 +80,11 @@ impl<T: Copy> Lists<T> {
 /// Puts the items of a list behind the others, and its end behind the other ends. Room for the end is
 /// made first, so that nothing has changed where memory runs out.
 fn append<T: Copy>(items: &mut Vec<T>, ends: &mut Vec<u32>, list: &[T]) -> Result<(), AllocError>
-    ensures ok { OnOk result ((items.new.items ≡ items.old.items ++ list.now)
+    ensures pushed { OnOk result ((items.new.items ≡ items.old.items ++ list.now)
         × (ends.new.items ≡ ends.old.items ++ (length items.old.items + length list.now) ∷ [])) }
-    ensures err { OnErr result ((items.new.items ≡ items.old.items) × (ends.new.items ≡ ends.old.items)) }
+    ensures kept { OnErr result ((items.new.items ≡ items.old.items) × (ends.new.items ≡ ends.old.items)) }
 {
-    // Items may take no room, so that there can be more of them than a `usize` counts.
+    // Items may take no room, so the sum of two counts need not fit a `usize`.
     let Ok(end) = u32::try_from(items.len() as u128 + list.len() as u128) else {
         return Err(AllocError);
     };
