@@ -1,15 +1,11 @@
 -- What each instruction does, as the rules and the machine tell instructions apart: thirteen kinds.
 use Rattle.std.specs.Prelude.{ℕ, zero, suc, ℤ, pos, negsuc, Bool, true, false, ◌||◌, ◌==◌, if◌then◌else◌, List, Option, Some, None, bytes_eq, codes}
-use Rattle.ns_base.specs.declared.rows.LockNo.{LockNo}
-use Rattle.ns_base.specs.declared.rows.TypeNo.{TypeNo}
 use Rattle.dalvik.specs.declared.ins.Ins.{Ins}
 use Rattle.dalvik.specs.declared.ins.Ins.TheVariants as ins
-use Rattle.dalvik.specs.declared.ins.Args.{Args}
-use Rattle.dalvik.specs.declared.opcode.TheConstants.{MOVE_RESULT_WIDE, RETURN_WIDE, MONITOR_ENTER, IF_EQZ, IF_NEZ, AGET_WIDE, AGET_OBJECT, IGET_WIDE, IGET_OBJECT, IPUT_OBJECT, SGET_WIDE, SGET_OBJECT, SPUT_OBJECT, INVOKE_SUPER, INVOKE_SUPER_RANGE, INVOKE_DIRECT, INVOKE_DIRECT_RANGE, INVOKE_STATIC, INVOKE_STATIC_RANGE, DIV_INT, REM_INT, DIV_LONG, REM_LONG, DIV_INT_2ADDR, REM_INT_2ADDR, DIV_LONG_2ADDR, REM_LONG_2ADDR, DIV_INT_LIT16, REM_INT_LIT16, DIV_INT_LIT8, REM_INT_LIT8}
+use Rattle.dalvik.specs.declared.opcode.TheConstants.{MOVE_RESULT_WIDE, RETURN_WIDE, MONITOR_ENTER, IF_EQZ, IF_NEZ, AGET_WIDE, AGET_OBJECT, IGET_WIDE, IGET_OBJECT, SGET_WIDE, SGET_OBJECT, INVOKE_SUPER, INVOKE_SUPER_RANGE, INVOKE_DIRECT, INVOKE_DIRECT_RANGE, INVOKE_STATIC, INVOKE_STATIC_RANGE, DIV_INT, REM_INT, DIV_LONG, REM_LONG, DIV_INT_2ADDR, REM_INT_2ADDR, DIV_LONG_2ADDR, REM_LONG_2ADDR, DIV_INT_LIT16, REM_INT_LIT16, DIV_INT_LIT8, REM_INT_LIT8}
 use Rattle.dalvik.specs.Descriptors.{is_reference}
 use Rattle.dalvik.specs.Registers.{is_wide_move, is_wide_const, is_wide_unary, is_wide_binary}
 use Rattle.app_model.specs.declared.rows.Named.{Named}
-use Rattle.app_model.specs.declared.lock_use.LockUse.{LockUse}
 use Rattle.app_model.specs.Parts.{AppParts}
 use Rattle.app_model.specs.Words.{ins_at, named_at}
 use Rattle.app_model.specs.Names.{result_text}
@@ -21,7 +17,6 @@ use Rattle.act_model.specs.declared.act.By.{By}
 use Rattle.act_model.specs.declared.act.By.TheVariants.{Virtual, Super, Direct, Static}
 use Rattle.act_model.specs.declared.act.Gives.{Gives}
 use Rattle.act_model.specs.declared.act.Gives.TheVariants.{Nothing, Number, Object}
-use Rattle.act_model.specs.declared.act.Returned.{Returned}
 use Rattle.act_model.specs.declared.act.Returned.TheVariants as returned
 use Rattle.act_model.specs.declared.act.Throws.{Throws}
 use Rattle.act_model.specs.declared.act.Throws.TheVariants.{Never, ByChoice, WhereZero}

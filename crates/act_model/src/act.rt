@@ -159,7 +159,7 @@ fn act_of_ins(app: &App, method: MethodNo, index: u32, ins: Ins) -> Act
         Ins::MoveResult { op, to } => take_result(op, to),
         Ins::MoveException { to } => write(to, Written::FreeObject, Throws::Never),
         Ins::ReturnVoid => answer(Returned::Nothing),
-        Ins::Return { op, from } => answer(returned(op, from)),
+        Ins::Return { op, from } => answer(return_of(op, from)),
         Ins::Const { op, to, value } => write(to, constant(op, value), Throws::Never),
         Ins::ConstString { to, .. } => write(to, Written::Text, Throws::Never),
         Ins::ConstClass { to, .. } => write(to, Written::ClassObject, Throws::Never),
@@ -253,7 +253,7 @@ fn take_result(op: u8, to: u32) -> Act
     }
 }
 
-fn returned(op: u8, from: u32) -> Returned
+fn return_of(op: u8, from: u32) -> Returned
     ensures { result ≡ (if op == RETURN_WIDE then Returned.Wide else Returned.Register from) }
 {
     if op == opcode::RETURN_WIDE {

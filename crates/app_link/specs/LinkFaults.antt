@@ -3,13 +3,10 @@ use Rattle.std.specs.Prelude.{ℕ, zero, suc, ◌≡◌, ◌<◌, ◌+◌, ◌-�
 use Rattle.ns_base.specs.Answers.{limit_of}
 use Rattle.ns_base.specs.declared.answers.Counted.{Counted}
 use Rattle.ns_base.specs.declared.answers.Counted.TheVariants.{Units, Locks, Sites}
-use Rattle.app_model.specs.declared.lock_use.LockUse.{LockUse}
-use Rattle.app_model.specs.declared.lock_use.LockUse.TheVariants.{Make}
 use Rattle.dalvik.specs.Access.{is_bodiless}
 use Rattle.app_model.specs.Ancestors.{IsCyclic}
 use Rattle.app_model.specs.Parts.{AppParts, ClassParts}
-use Rattle.app_model.specs.LockUse.{lock_use_at}
-use Rattle.app_model.specs.Words.{code_len}
+use Rattle.app_model.specs.Sites.{sites_below}
 use Rattle.app_link.specs.declared.link_fault.LinkFault.{LinkFault}
 use Rattle.app_link.specs.declared.link_fault.LinkFault.TheVariants.{DuplicateClass, CodeMissing, CodeUnwanted, Limit}
 use Rattle.app_link.specs.declared.class_checks.ClassPlace.{ClassPlace}
@@ -93,19 +90,6 @@ IsAcyclicBelow classes n = (c : ℕ) (class : ClassParts) → c < n → slice_ge
 -- so many are more than the limit
 abbrev pub above : Counted → ℕ → Option LinkFault
 above which n = if nat_lt (limit_of which) n then Some (Limit which) else None
-
-abbrev pub is_make : LockUse → Bool
-is_make Make = true
-is_make other = false
-
--- how many of the first n instructions of a method make a lock, and how many of those of the first n methods
-abbrev pub sites_in : AppParts → ℕ → ℕ → ℕ
-sites_in app m zero = 0
-sites_in app m (suc i) = sites_in app m i + (if is_make (lock_use_at app m i) then 1 else 0)
-
-abbrev pub sites_below : AppParts → ℕ → ℕ
-sites_below app zero = 0
-sites_below app (suc m) = sites_below app m + sites_in app m (code_len app m)
 
 -- code units of all files, wake-lock fields, calls that make a lock
 abbrev pub units_fault : List FileContent → Option LinkFault

@@ -1,7 +1,8 @@
 //! What is limited over the whole application.
 ghost use Rattle.std.specs.Prelude.{◌≡◌, ◌≤◌, ◌<◌, ◌*◌, ◌^◌, length};
 ghost use Rattle.app_model.specs.Words.{code_len};
-ghost use Rattle.app_link.specs.LinkFaults.{above, is_make, sites_in, sites_below, units_fault, sites_fault};
+ghost use Rattle.app_model.specs.Sites.{is_make, sites_in, sites_below};
+ghost use Rattle.app_link.specs.LinkFaults.{above, units_fault, sites_fault};
 
 use crate::link_fault::LinkFault;
 use app_model::{App, LockUse};

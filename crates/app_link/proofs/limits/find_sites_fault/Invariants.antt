@@ -1,5 +1,5 @@
 use Rattle.std.proofs.Common.{◌≡◌, ◌≤◌, ◌*◌, ◌^◌}
-use Rattle.app_link.specs.LinkFaults.{sites_below}
+use Rattle.app_model.specs.Sites.{sites_below}
 use Rattle.app_link.proofs.limits.find_sites_fault.Given as goal
 
 abbrev pub invariant-loop-m : goal.invariant-loop-m

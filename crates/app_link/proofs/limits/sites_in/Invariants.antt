@@ -1,5 +1,5 @@
 use Rattle.std.proofs.Common.{◌≡◌, ◌≤◌}
-use Rattle.app_link.specs.LinkFaults.{sites_in}
+use Rattle.app_model.specs.Sites.{sites_in}
 use Rattle.app_link.proofs.limits.sites_in.Given as goal
 
 abbrev pub invariant-loop-i : goal.invariant-loop-i
