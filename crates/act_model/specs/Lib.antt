@@ -1,2 +1,4 @@
 pub mod Acts
 pub mod Tags
+pub mod Changes
+pub mod Entries

@@ -17,6 +17,10 @@ held_statuses = 0xdc
 abbrev pub is_held : ℕ → Bool
 is_held s = in_mask held_statuses s
 
+-- a set of lock fields, of which there are at most 64: bit l for lock field l
+abbrev pub in_lock_mask : ℕ → ℕ → Bool
+in_lock_mask mask l = nat_lt l 64 && (bit_at mask l == 1)
+
 -- some number below n passes the test
 abbrev pub any_below : (ℕ → Bool) → ℕ → Bool
 any_below f zero = false

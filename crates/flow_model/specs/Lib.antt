@@ -1,10 +1,6 @@
 pub mod Derived
 pub mod Images
 pub mod Status
-pub mod Tags
-pub mod Acts
-pub mod Changes
-pub mod Entries
 pub mod Passes
 pub mod Scope
 pub mod Subject

@@ -1,19 +1,26 @@
--- With which statuses of the lock field l an instruction goes on, and with which it throws, by the tags before it and
--- the status before it. Statuses are masks; l is the lock under solution.
-use Rattle.std.specs.Prelude.{ℕ, ◌==◌, Bool, true, false, if◌then◌else◌, List, [], ◌∷◌, Option, Some, None, slice_index, bit_or}
+-- With which statuses of lock field l an instruction goes on, and with which it throws, by the tags before it and the
+-- status before it. Statuses are masks; l is the lock under solution.
+use Rattle.std.specs.Prelude.{ℕ, ◌+◌, ◌==◌, Bool, true, false, if◌then◌else◌, List, [], ◌∷◌, slice_index, bit_or}
 use Rattle.ns_base.specs.declared.rows.LockNo.{LockNo}
+use Rattle.dalvik.specs.Calls.{receiver_of, argument_of}
+use Rattle.dalvik.specs.declared.ins.Args.{Args}
+use Rattle.app_model.specs.Masks.{in_mask}
 use Rattle.app_model.specs.declared.tag.Tag.{Tag}
 use Rattle.app_model.specs.declared.tag.Tag.TheVariants.{Bot, Zero, Solid, Held, Any, Field, New, Mixed}
 use Rattle.app_model.specs.declared.lock_use.LockUse.{LockUse}
 use Rattle.app_model.specs.declared.lock_use.LockUse.TheVariants.{Plain, Make, Acquire, Release, IsHeld, Mode, Wrong}
-use Rattle.flow_model.specs.declared.act.Act.{Act}
-use Rattle.flow_model.specs.declared.act.Act.TheVariants.{Nop, ReturnVoid, TakeResult, WriteZero, WriteNonzero, WriteText, CheckCast, ReadStatic, WriteStatic, Call, Other}
-use Rattle.dalvik.specs.Calls.{receiver_of, argument_of}
-use Rattle.flow_model.specs.Changes.{tag_in}
-use Rattle.app_model.specs.Masks.{in_mask}
-use Rattle.flow_model.specs.Status.{acquire_passes, acquire_throws, release_passes, release_throws, is_held_passes, call_throws, mode_passes, mode_throws, store_passes, null_passes, zero_if_null, nonzero_if_null}
+use Rattle.act_model.specs.declared.act.Act.{Act}
+use Rattle.act_model.specs.declared.act.Act.TheVariants.{Go, Test, Copy, TakeResult, Write, Fill, ReadSlot, WriteSlot, Give, Check, Throw, Return, Call}
+use Rattle.act_model.specs.declared.act.By.{By}
+use Rattle.act_model.specs.declared.act.By.TheVariants.{Virtual, Super, Direct, Static}
+use Rattle.act_model.specs.declared.act.Throws.{Throws}
+use Rattle.act_model.specs.declared.act.Throws.TheVariants.{Never, ByChoice, WhereZero}
+use Rattle.act_model.specs.Changes.{tag_in}
+use Rattle.flow_model.specs.declared.passes.Nullness.{Nullness}
+use Rattle.flow_model.specs.declared.passes.Nullness.TheVariants.{Nothing, Null, NotNull, Own, Unknown}
+use Rattle.flow_model.specs.Status.{acquire_passes, acquire_throws, release_passes, release_throws, is_held_passes, call_throws, mode_passes, mode_throws, store_passes, null_passes, zero_if_null, nonzero_if_null, zero_if_held, nonzero_if_held}
 
--- the mask of one status
+-- ---- masks of the status before
 abbrev pub only : ℕ → ℕ
 only s = slice_index (0x01 ∷ 0x02 ∷ 0x04 ∷ 0x08 ∷ 0x10 ∷ 0x20 ∷ 0x40 ∷ 0x80 ∷ []) s
 
@@ -21,75 +28,59 @@ abbrev pub only_if : Bool → ℕ → ℕ
 only_if true s = only s
 only_if false s = 0
 
--- the tag of what lock field l holds
-abbrev pub is_field : ℕ → Tag → Bool
-is_field l (Field k) = k.0 == l
-is_field l tag = false
+-- ---- what a tag says of null: nothing is there, null, no null, what l holds, either
+abbrev pub nullness : ℕ → Tag → Nullness
+nullness l Bot = Nothing
+nullness l Zero = Null
+nullness l Solid = NotNull
+nullness l (New z) = NotNull
+nullness l (Field k) = if k.0 == l then Own else Unknown
+nullness l (Held k) = Unknown
+nullness l Any = Unknown
+nullness l Mixed = Unknown
 
--- ---- a receiver that must not be null
-abbrev pub passes_null_test : ℕ → Tag → ℕ → ℕ
-passes_null_test l Bot s = 0
-passes_null_test l Zero s = 0
-passes_null_test l (Field k) s = if k.0 == l then only_if (in_mask nonzero_if_null s) s else only s
-passes_null_test l Solid s = only s
-passes_null_test l (New z) s = only s
-passes_null_test l (Held k) s = only s
-passes_null_test l Any s = only s
-passes_null_test l Mixed s = only s
+-- a value that must not be null: with which statuses it is not, and with which it is
+abbrev pub passes_null : Nullness → ℕ → ℕ
+passes_null Nothing s = 0
+passes_null Null s = 0
+passes_null NotNull s = only s
+passes_null Own s = only_if (in_mask nonzero_if_null s) s
+passes_null Unknown s = only s
 
-abbrev pub fails_null_test : ℕ → Tag → ℕ → ℕ
-fails_null_test l Bot s = 0
-fails_null_test l Zero s = only s
-fails_null_test l (Field k) s = if k.0 == l then only_if (in_mask zero_if_null s) s else only s
-fails_null_test l Solid s = 0
-fails_null_test l (New z) s = 0
-fails_null_test l (Held k) s = only s
-fails_null_test l Any s = only s
-fails_null_test l Mixed s = only s
+abbrev pub fails_null : Nullness → ℕ → ℕ
+fails_null Nothing s = 0
+fails_null Null s = only s
+fails_null NotNull s = 0
+fails_null Own s = only_if (in_mask zero_if_null s) s
+fails_null Unknown s = only s
 
--- ---- a lock call by a column of the status table, which counts where its receiver is what l holds
-abbrev pub lock_call_passes : ℕ → (ℕ → ℕ) → Tag → ℕ → ℕ
-lock_call_passes l column Bot s = 0
-lock_call_passes l column Zero s = 0
-lock_call_passes l column (Field k) s = if k.0 == l then column s else only s
-lock_call_passes l column Solid s = only s
-lock_call_passes l column (New z) s = only s
-lock_call_passes l column (Held k) s = only s
-lock_call_passes l column Any s = only s
-lock_call_passes l column Mixed s = only s
+-- ---- an instruction that throws never, by choice, or where a register is null
+abbrev pub passes_by : ℕ → Throws → List Tag → ℕ → ℕ
+passes_by l Never row s = only s
+passes_by l ByChoice row s = only s
+passes_by l (WhereZero r) row s = passes_null (nullness l (tag_in row r)) s
 
-abbrev pub lock_call_throws : ℕ → (ℕ → ℕ) → Tag → ℕ → ℕ
-lock_call_throws l column Bot s = 0
-lock_call_throws l column Zero s = only s
-lock_call_throws l column (Field k) s = if k.0 == l then column s else only s
-lock_call_throws l column Solid s = only s
-lock_call_throws l column (New z) s = only s
-lock_call_throws l column (Held k) s = only s
-lock_call_throws l column Any s = only s
-lock_call_throws l column Mixed s = only s
+abbrev pub throws_by : ℕ → Throws → List Tag → ℕ → ℕ
+throws_by l Never row s = 0
+throws_by l ByChoice row s = only s
+throws_by l (WhereZero r) row s = fails_null (nullness l (tag_in row r)) s
 
--- ---- a call, by the tags of its receiver and of the argument behind it. One that leads outside throws by choice,
--- where it is reached
-abbrev pub outside_throws : ℕ → Tag → ℕ → ℕ
-outside_throws l receiver s = bit_or (fails_null_test l receiver s) (passes_null_test l receiver s)
+-- ---- a test against zero: the branch that is taken where the value is zero, and the other one
+abbrev pub by_branch : (zero : Bool) → (if_zero if_nonzero : ℕ) → ℕ
+by_branch true if_zero if_nonzero = if_zero
+by_branch false if_zero if_nonzero = if_nonzero
 
-abbrev pub call_passes : ℕ → LockUse → Tag → Tag → ℕ → ℕ
-call_passes l Plain receiver argument s = passes_null_test l receiver s
-call_passes l Make receiver argument s = passes_null_test l receiver s
-call_passes l Wrong receiver argument s = passes_null_test l receiver s
-call_passes l Acquire receiver argument s = lock_call_passes l acquire_passes receiver s
-call_passes l Release receiver argument s = lock_call_passes l release_passes receiver s
-call_passes l IsHeld receiver argument s = lock_call_passes l is_held_passes receiver s
-call_passes l Mode receiver argument s = lock_call_passes l (mode_passes argument) receiver s
-
-abbrev pub call_throws_with : ℕ → LockUse → Tag → Tag → ℕ → ℕ
-call_throws_with l Plain receiver argument s = outside_throws l receiver s
-call_throws_with l Make receiver argument s = outside_throws l receiver s
-call_throws_with l Wrong receiver argument s = outside_throws l receiver s
-call_throws_with l Acquire receiver argument s = lock_call_throws l acquire_throws receiver s
-call_throws_with l Release receiver argument s = lock_call_throws l release_throws receiver s
-call_throws_with l IsHeld receiver argument s = lock_call_throws l call_throws receiver s
-call_throws_with l Mode receiver argument s = lock_call_throws l (mode_throws argument) receiver s
+abbrev pub test_passes : ℕ → Tag → (zero : Bool) → ℕ → ℕ
+test_passes l Bot zero s = 0
+test_passes l Zero zero s = by_branch zero (only s) 0
+test_passes l Solid zero s = by_branch zero 0 (only s)
+test_passes l (New z) zero s = by_branch zero 0 (only s)
+test_passes l (Held k) zero s =
+    if k.0 == l then by_branch zero (only_if (in_mask zero_if_held s) s) (only_if (in_mask nonzero_if_held s) s) else only s
+test_passes l (Field k) zero s =
+    if k.0 == l then by_branch zero (only_if (in_mask zero_if_null s) s) (only_if (in_mask nonzero_if_null s) s) else only s
+test_passes l Any zero s = only s
+test_passes l Mixed zero s = only s
 
 -- ---- a store to lock field l, by the tag of the stored value
 abbrev pub stored_passes : Tag → ℕ → ℕ
@@ -102,37 +93,105 @@ stored_passes Any s = 0
 stored_passes (Field k) s = 0
 stored_passes Mixed s = 0
 
-abbrev pub write_passes : ℕ → Option LockNo → Tag → ℕ → ℕ
-write_passes l None stored s = only s
-write_passes l (Some k) stored s = if k.0 == l then stored_passes stored s else only s
+abbrev pub is_slot : ℕ → LockNo → Bool
+is_slot l k = k.0 == l
 
--- ---- every instruction; k numbers the successor
-abbrev pub passes : ℕ → Act → List Tag → ℕ → ℕ → ℕ
-passes l Nop row k s = only s
-passes l ReturnVoid row k s = 0
-passes l (TakeResult to) row k s = only s
-passes l (WriteZero to) row k s = only s
-passes l (WriteNonzero to) row k s = only s
-passes l (WriteText to) row k s = only s
-passes l CheckCast row k s = only s
-passes l (ReadStatic to slot) row k s = only s
-passes l (WriteStatic from slot) row k s = write_passes l slot (tag_in row from) s
-passes l (Call usage arguments gives) row k s = call_passes l usage (tag_in row (receiver_of arguments)) (tag_in row (argument_of arguments)) s
-passes l Other row k s = 0
+-- a store that throws passes nothing: the status after it is one to which the store leads from one that passes
+abbrev pub slot_passes : ℕ → LockNo → Tag → ℕ → ℕ
+slot_passes l k stored s = if is_slot l k then stored_passes stored s else only s
 
-abbrev pub throws : ℕ → Act → List Tag → ℕ → ℕ
-throws l CheckCast row s = only s
-throws l (Call usage arguments gives) row s =
-    call_throws_with l usage (tag_in row (receiver_of arguments)) (tag_in row (argument_of arguments)) s
-throws l Nop row s = 0
-throws l ReturnVoid row s = 0
-throws l (TakeResult to) row s = 0
-throws l (WriteZero to) row s = 0
-throws l (WriteNonzero to) row s = 0
-throws l (WriteText to) row s = 0
-throws l (ReadStatic to slot) row s = 0
-throws l (WriteStatic from slot) row s = 0
-throws l Other row s = 0
+abbrev pub if_passes : (passed image : ℕ) → ℕ
+if_passes passed image = if passed == 0 then 0 else image
+
+-- ---- calls. The receiver of a static call is no value that may be null
+abbrev pub receiver_nullness : ℕ → By → List Tag → Args → Nullness
+receiver_nullness l Static row arguments = NotNull
+receiver_nullness l Virtual row arguments = nullness l (tag_in row (receiver_of arguments))
+receiver_nullness l Super row arguments = nullness l (tag_in row (receiver_of arguments))
+receiver_nullness l Direct row arguments = nullness l (tag_in row (receiver_of arguments))
+
+-- a lock call by a column of the status table, which counts where its receiver is what l holds
+abbrev pub lock_call_passes : (ℕ → ℕ) → Nullness → ℕ → ℕ
+lock_call_passes column Nothing s = 0
+lock_call_passes column Null s = 0
+lock_call_passes column NotNull s = only s
+lock_call_passes column Own s = column s
+lock_call_passes column Unknown s = only s
+
+abbrev pub lock_call_throws : (ℕ → ℕ) → Nullness → ℕ → ℕ
+lock_call_throws column Nothing s = 0
+lock_call_throws column Null s = only s
+lock_call_throws column NotNull s = only s
+lock_call_throws column Own s = column s
+lock_call_throws column Unknown s = only s
+
+-- a call that may lead outside: it passes only where it does, throws on null, and by choice where it leads outside
+abbrev pub passes_outside : (outside : Bool) → Nullness → ℕ → ℕ
+passes_outside true receiver s = passes_null receiver s
+passes_outside false receiver s = 0
+
+abbrev pub throws_outside : (outside : Bool) → Nullness → ℕ → ℕ
+throws_outside outside receiver s = bit_or (fails_null receiver s) (passes_outside outside receiver s)
+
+-- by what the call is to the wake locks, the receiver, and the tag of the argument behind it
+abbrev pub call_passes : LockUse → (outside : Bool) → Nullness → Tag → ℕ → ℕ
+call_passes Plain outside receiver argument s = passes_outside outside receiver s
+call_passes Make outside receiver argument s = passes_outside true receiver s
+call_passes Wrong outside receiver argument s = passes_outside true receiver s
+call_passes Acquire outside receiver argument s = lock_call_passes acquire_passes receiver s
+call_passes Release outside receiver argument s = lock_call_passes release_passes receiver s
+call_passes IsHeld outside receiver argument s = lock_call_passes is_held_passes receiver s
+call_passes Mode outside receiver argument s = lock_call_passes (mode_passes argument) receiver s
+
+abbrev pub call_throws_with : LockUse → (outside : Bool) → Nullness → Tag → ℕ → ℕ
+call_throws_with Plain outside receiver argument s = throws_outside outside receiver s
+call_throws_with Make outside receiver argument s = throws_outside true receiver s
+call_throws_with Wrong outside receiver argument s = throws_outside true receiver s
+call_throws_with Acquire outside receiver argument s = lock_call_throws acquire_throws receiver s
+call_throws_with Release outside receiver argument s = lock_call_throws release_throws receiver s
+call_throws_with IsHeld outside receiver argument s = lock_call_throws call_throws receiver s
+call_throws_with Mode outside receiver argument s = lock_call_throws (mode_throws argument) receiver s
+
+-- ---- every act. `outside` says whether a call may lead outside; k numbers the successor
+abbrev pub passes : ℕ → Act → List Tag → (outside : Bool) → (k s : ℕ) → ℕ
+passes l Go row outside k s = only s
+passes l (Test value zero) row outside k s = test_passes l (tag_in row value) (k == zero) s
+passes l (Copy to from wide) row outside k s = only s
+passes l (TakeResult to) row outside k s = only s
+passes l (Write to what when) row outside k s = passes_by l when row s
+passes l (Fill arguments kind) row outside k s = only s
+passes l (ReadSlot to slot when) row outside k s = passes_by l when row s
+passes l (WriteSlot from slot when) row outside k s = if_passes (passes_by l when row s) (slot_passes l slot (tag_in row from) s)
+passes l (Give from when) row outside k s = passes_by l when row s
+passes l (Check when) row outside k s = passes_by l when row s
+passes l (Throw object) row outside k s = 0
+passes l (Return answer) row outside k s = 0
+passes l (Call by usage arguments gives) row outside k s =
+    call_passes usage outside (receiver_nullness l by row arguments) (tag_in row (argument_of arguments)) s
+
+abbrev pub throws : ℕ → Act → List Tag → (outside : Bool) → (s : ℕ) → ℕ
+throws l Go row outside s = 0
+throws l (Test value zero) row outside s = 0
+throws l (Copy to from wide) row outside s = 0
+throws l (TakeResult to) row outside s = 0
+throws l (Write to what when) row outside s = throws_by l when row s
+throws l (Fill arguments kind) row outside s = 0
+throws l (ReadSlot to slot when) row outside s = throws_by l when row s
+throws l (WriteSlot from slot when) row outside s = throws_by l when row s
+throws l (Give from when) row outside s = throws_by l when row s
+throws l (Check when) row outside s = throws_by l when row s
+throws l (Throw object) row outside s = only s
+throws l (Return answer) row outside s = 0
+throws l (Call by usage arguments gives) row outside s =
+    call_throws_with usage outside (receiver_nullness l by row arguments) (tag_in row (argument_of arguments)) s
+
+-- whether the receiver lets a call pass at a status, so that a callee is entered
+abbrev pub is_open_call : ℕ → By → List Tag → Args → (s : ℕ) → Bool
+is_open_call l by row arguments s = in_mask (passes_null (receiver_nullness l by row arguments) s) s
+
+abbrev pub is_open_act : ℕ → Act → List Tag → (s : ℕ) → Bool
+is_open_act l (Call by usage arguments gives) row s = is_open_call l by row arguments s
+is_open_act l act row s = false
 
 -- ---- an own operation of l: a lock call on what it holds, or a store to it
 abbrev pub is_lock_call : LockUse → Bool
@@ -144,11 +203,12 @@ is_lock_call Plain = false
 is_lock_call Make = false
 is_lock_call Wrong = false
 
-abbrev pub is_slot : ℕ → Option LockNo → Bool
-is_slot l None = false
-is_slot l (Some k) = k.0 == l
+-- the tag of what lock field l holds
+abbrev pub is_field : ℕ → Tag → Bool
+is_field l (Field k) = k.0 == l
+is_field l tag = false
 
 abbrev pub is_own : ℕ → Act → List Tag → Bool
-is_own l (Call usage arguments gives) row = if is_lock_call usage then is_field l (tag_in row (receiver_of arguments)) else false
-is_own l (WriteStatic from slot) row = is_slot l slot
+is_own l (Call by usage arguments gives) row = if is_lock_call usage then is_field l (tag_in row (receiver_of arguments)) else false
+is_own l (WriteSlot from slot when) row = is_slot l slot
 is_own l act row = false

@@ -4,12 +4,12 @@ use Rattle.app_model.specs.declared.component.Edge.{Edge}
 use Rattle.app_model.specs.declared.tag.Tag.{Tag}
 use Rattle.app_model.specs.declared.lock_use.LockUse.TheVariants.{Acquire}
 use Rattle.app_model.specs.Components.{edge_at, callback_at, exits_at}
-use Rattle.flow_model.specs.declared.act.Act.{Act}
+use Rattle.act_model.specs.declared.act.Act.{Act}
 use Rattle.flow_model.specs.declared.policy.Violation.{Violation}
-use Rattle.flow_model.specs.declared.act.Act.TheVariants.{Call}
+use Rattle.act_model.specs.declared.act.Act.TheVariants.{Call}
 use Rattle.dalvik.specs.Calls.{receiver_of}
-use Rattle.flow_model.specs.Acts.{act_at}
-use Rattle.flow_model.specs.Changes.{tag_in}
+use Rattle.act_model.specs.Acts.{act_at}
+use Rattle.act_model.specs.Changes.{tag_in}
 use Rattle.app_model.specs.Facts.{Fact, View}
 use Rattle.app_model.specs.Masks.{in_mask, is_held}
 use Rattle.flow_model.specs.Derived.{Set, HasAll, Derived}
@@ -19,7 +19,7 @@ use Rattle.flow_model.specs.Subject.{SubjectParts}
 
 -- an acquire of what lock field l holds
 abbrev pub acquires : ℕ → Option Act → List Tag → Bool
-acquires l (Some (Call Acquire arguments gives)) row = is_field l (tag_in row (receiver_of arguments))
+acquires l (Some (Call by Acquire arguments gives)) row = is_field l (tag_in row (receiver_of arguments))
 acquires l act row = false
 
 -- component c answers for lock field l: a callback of it acquires what the field holds

@@ -3,8 +3,9 @@ use Rattle.std.specs.Prelude.{ℕ, ◌≡◌, ◌<◌, ◌&&◌, ◌==◌, Bool,
 use Rattle.app_model.specs.declared.component.Edge.{Edge}
 use Rattle.app_model.specs.Words.{successor_at, handler_at, leaves_at}
 use Rattle.app_model.specs.Components.{edge_at, callback_at}
-use Rattle.flow_model.specs.declared.act.Act.TheVariants.{ReturnVoid}
-use Rattle.flow_model.specs.Acts.{act_at}
+use Rattle.act_model.specs.declared.act.Act.{Act}
+use Rattle.act_model.specs.declared.act.Act.TheVariants.{Return}
+use Rattle.act_model.specs.Acts.{act_at}
 use Rattle.app_model.specs.Facts.{Fact, View, At, Ret, Exc}
 use Rattle.app_model.specs.Masks.{in_mask}
 use Rattle.flow_model.specs.Derived.{Either}
@@ -26,11 +27,19 @@ is_owner (Some d) c = d == c
 abbrev pub entered : SubjectParts → ℕ → ℕ → Edge → ℕ → ℕ
 entered x l c edge s = if edge.creates && is_owner (x.owners l) c then cleared s else s
 
+abbrev pub is_return : Option Act → Bool
+is_return (Some (Return answer)) = true
+is_return act = false
+
+-- instruction i of method m returns
+abbrev pub returns_at : SubjectParts → (m i : ℕ) → Bool
+returns_at x m i = is_return (act_at x.app m i)
+
 -- inside a callback
 pub data Inside (x : SubjectParts) (l : ℕ) (masks : Masks) : List Fact → Fact → Type 0 where
   I1 : {m e i s j t : ℕ} (k : ℕ) → own_operation x l m i ≡ false → successor_at x.app m i k ≡ Some j
       → in_mask (masks.passes m i k s) t ≡ true → Inside x l masks (At m e i s ∷ []) (At m e j t)
-  I1_return : {m e i s : ℕ} → act_at x.app m i ≡ Some ReturnVoid → Inside x l masks (At m e i s ∷ []) (Ret m e s)
+  I1_return : {m e i s : ℕ} → returns_at x m i ≡ true → Inside x l masks (At m e i s ∷ []) (Ret m e s)
   I2 : {m e i s j t : ℕ} (k : ℕ) → own_operation x l m i ≡ true → successor_at x.app m i k ≡ Some j
       → in_mask (masks.passes m i k s) t ≡ true → Inside x l masks (At m e i s ∷ []) (At m e j t)
   I3 : {m e i s h t : ℕ} (k : ℕ) → handler_at x.app m i k ≡ Some h

@@ -1,10 +1,10 @@
 -- What the rules speak of: an application, a component list, the tags of its registers, and who owns which lock field.
-use Rattle.std.specs.Prelude.{ℕ, List, Option, Some, None, Bool, false}
+use Rattle.std.specs.Prelude.{ℕ, List, Option, Some, None, Bool, true, false}
 use Rattle.app_model.specs.declared.tag.Tag.{Tag}
 use Rattle.app_model.specs.Parts.{AppParts}
 use Rattle.app_model.specs.Components.{ComponentParts}
-use Rattle.flow_model.specs.declared.act.Act.{Act}
-use Rattle.flow_model.specs.Acts.{act_at}
+use Rattle.act_model.specs.declared.act.Act.{Act}
+use Rattle.act_model.specs.Acts.{act_at}
 use Rattle.flow_model.specs.Passes.{passes, throws, is_own}
 
 pub record SubjectParts : Type 0 where
@@ -20,13 +20,14 @@ pub record Masks : Type 0 where
   pub passes : (m i k s : ℕ) → ℕ
   pub throws : (m i s : ℕ) → ℕ
 
-abbrev pub passes_by : ℕ → Option Act → List Tag → ℕ → ℕ → ℕ
-passes_by l None row k s = 0
-passes_by l (Some act) row k s = passes l act row k s
+-- every call may lead outside, and none enters a method of the application yet
+abbrev pub mask_passes : ℕ → Option Act → List Tag → ℕ → ℕ → ℕ
+mask_passes l None row k s = 0
+mask_passes l (Some act) row k s = passes l act row true k s
 
-abbrev pub throws_by : ℕ → Option Act → List Tag → ℕ → ℕ
-throws_by l None row s = 0
-throws_by l (Some act) row s = throws l act row s
+abbrev pub mask_throws : ℕ → Option Act → List Tag → ℕ → ℕ
+mask_throws l None row s = 0
+mask_throws l (Some act) row s = throws l act row true s
 
 abbrev pub own_by : ℕ → Option Act → List Tag → Bool
 own_by l None row = false
@@ -35,8 +36,8 @@ own_by l (Some act) row = is_own l act row
 -- the masks of the status rules
 abbrev pub status_masks : SubjectParts → ℕ → Masks
 status_masks x l = record {
-  passes = λ m i k s. passes_by l (act_at x.app m i) (x.tags m i) k s;
-  throws = λ m i s. throws_by l (act_at x.app m i) (x.tags m i) s;
+  passes = λ m i k s. mask_passes l (act_at x.app m i) (x.tags m i) k s;
+  throws = λ m i s. mask_throws l (act_at x.app m i) (x.tags m i) s;
 }
 
 -- instruction i of method m is an own operation of lock field l

@@ -1,91 +1,113 @@
 //! With which statuses of the lock under solution an instruction goes on, and with which it throws.
-ghost use Rattle.std.specs.Prelude.{◌≡◌, ◌<◌, ◌+◌, Some, slice_index};
-ghost use Rattle.dalvik.specs.Calls.{receiver_of, argument_of};
-ghost use Rattle.flow_model.specs.Changes as changes;
+ghost use Rattle.std.specs.Prelude.{◌≡◌, ◌<◌, ◌+◌, ◌==◌, Some, slice_index};
+ghost use Rattle.dalvik.specs.Calls.{argument_of};
+ghost use Rattle.app_model.specs.Masks.{in_mask};
+ghost use Rattle.act_model.specs.Changes.{tag_in};
 ghost use Rattle.flow_model.specs.Passes as spec;
 ghost use Rattle.flow_model.specs.Policy as policy;
 ghost use Rattle.flow_model.specs.Status as table;
-ghost use Rattle.app_model.specs.Masks.{in_mask};
 
-use crate::act::Act;
 use crate::masks::has_status;
 use crate::status;
+use act_model::{Act, By, Row, Throws, receiver_tag};
 use app_model::{LockUse, Tag};
 use dalvik::Args;
 use ns_base::LockNo;
 
-/// The statuses, as a mask, with which an act leads to its successor number `to` from a status.
-pub fn pass_mask(lock: LockNo, act: Act, row: &[Tag], to: u32, status: u8) -> u8
+/// What a tag says of null.
+#[derive(Clone, Copy)]
+pub enum Nullness {
+    /// No value comes here.
+    Nothing,
+    Null,
+    NotNull,
+    /// What the lock field under solution holds.
+    Own,
+    Unknown,
+}
+
+/// The statuses, as a mask, with which an act leads to its successor number `to` from a status. `outside` says
+/// whether a call may lead outside.
+pub fn pass_mask<R: Row>(lock: LockNo, act: &Act, row: &R, outside: bool, to: u32, status: u8) -> u8
     requires { status < 8 }
-    ensures { result ≡ spec.passes lock.0 act row.now to status }
+    ensures { result ≡ spec.passes lock.0 act.now (R.tags row.now) outside to status }
 {
-    match act {
-        Act::Nop
-        | Act::TakeResult { .. }
-        | Act::WriteZero { .. }
-        | Act::WriteNonzero { .. }
-        | Act::WriteText { .. }
-        | Act::CheckCast
-        | Act::ReadStatic { .. } => only(status),
-        Act::WriteStatic { from, slot } => write_passes(lock, slot, tag_in(row, from), status),
-        Act::Call { usage, args, .. } => {
-            call_passes(
-                lock,
-                usage,
-                receiver_tag(row, &args),
-                argument_tag(row, &args),
-                status,
-            )
+    match *act {
+        Act::Go | Act::Copy { .. } | Act::TakeResult { .. } | Act::Fill { .. } => only(status),
+        Act::Test { value, zero } => test_passes(lock, row.tag(value as usize), to == zero, status),
+        Act::Write { throws, .. }
+        | Act::ReadSlot { throws, .. }
+        | Act::Give { throws, .. }
+        | Act::Check { throws } => passes_by(lock, throws, row, status),
+        Act::WriteSlot {
+            from,
+            slot,
+            throws,
+        } => write_passes(lock, throws, row, (from, slot), status),
+        Act::Throw { .. } | Act::Return { .. } => 0,
+        Act::Call { by, usage, args, .. } => {
+            let receiver = receiver_nullness(lock, by, row, &args);
+            call_passes(usage, outside, receiver, argument_tag(row, &args), status)
         }
-        Act::ReturnVoid | Act::Other => 0,
     }
 }
 
 /// The statuses, as a mask, with which an act throws from a status.
-pub fn throws(lock: LockNo, act: Act, row: &[Tag], status: u8) -> u8
+pub fn throw_mask<R: Row>(lock: LockNo, act: &Act, row: &R, outside: bool, status: u8) -> u8
     requires { status < 8 }
-    ensures { result ≡ spec.throws lock.0 act row.now status }
+    ensures { result ≡ spec.throws lock.0 act.now (R.tags row.now) outside status }
 {
-    match act {
-        Act::CheckCast => only(status),
-        Act::Call { usage, args, .. } => {
-            call_throws(
-                lock,
-                usage,
-                receiver_tag(row, &args),
-                argument_tag(row, &args),
-                status,
-            )
+    match *act {
+        Act::Write { throws, .. }
+        | Act::ReadSlot { throws, .. }
+        | Act::WriteSlot { throws, .. }
+        | Act::Give { throws, .. }
+        | Act::Check { throws } => throws_by(lock, throws, row, status),
+        Act::Throw { .. } => only(status),
+        Act::Call { by, usage, args, .. } => {
+            let receiver = receiver_nullness(lock, by, row, &args);
+            call_throws(usage, outside, receiver, argument_tag(row, &args), status)
         }
-        Act::Nop
-        | Act::ReturnVoid
+        Act::Go
+        | Act::Test { .. }
+        | Act::Copy { .. }
         | Act::TakeResult { .. }
-        | Act::WriteZero { .. }
-        | Act::WriteNonzero { .. }
-        | Act::WriteText { .. }
-        | Act::ReadStatic { .. }
-        | Act::WriteStatic { .. }
-        | Act::Other => 0,
+        | Act::Fill { .. }
+        | Act::Return { .. } => 0,
+    }
+}
+
+/// Whether the receiver lets an act, if it is a call, pass at a status, so that its callees are entered.
+pub fn is_open<R: Row>(lock: LockNo, act: &Act, row: &R, status: u8) -> bool
+    requires { status < 8 }
+    ensures { result ≡ spec.is_open_act lock.0 act.now (R.tags row.now) status }
+{
+    match *act {
+        Act::Call { by, args, .. } => {
+            let receiver = receiver_nullness(lock, by, row, &args);
+            has_status(passes_null(receiver, status), status as usize)
+        }
+        _ => false,
     }
 }
 
 /// Whether an act is a lock call on what the lock field holds, or a store to it.
-pub fn is_own(lock: LockNo, act: Act, row: &[Tag]) -> bool
-    ensures { result ≡ spec.is_own lock.0 act row.now }
+pub fn is_own<R: Row>(lock: LockNo, act: &Act, row: &R) -> bool
+    ensures { result ≡ spec.is_own lock.0 act.now (R.tags row.now) }
 {
-    match act {
+    match *act {
         Act::Call { usage, args, .. } => is_lock_call(usage)
             && is_field(lock, receiver_tag(row, &args)),
-        Act::WriteStatic { slot, .. } => is_slot(lock, slot),
+        Act::WriteSlot { slot, .. } => is_slot(lock, slot),
         _ => false,
     }
 }
 
 /// Whether an act acquires what the lock field holds.
-pub fn acquires(lock: LockNo, act: Act, row: &[Tag]) -> bool
-    ensures { result ≡ policy.acquires lock.0 (Some act) row.now }
+pub fn acquires<R: Row>(lock: LockNo, act: &Act, row: &R) -> bool
+    ensures { result ≡ policy.acquires lock.0 (Some act.now) (R.tags row.now) }
 {
-    match act {
+    match *act {
         Act::Call {
             usage: LockUse::Acquire,
             args,
@@ -95,43 +117,13 @@ pub fn acquires(lock: LockNo, act: Act, row: &[Tag]) -> bool
     }
 }
 
-/// The tag of a register; Bot past the end of the row.
-pub fn tag_in(row: &[Tag], register: u32) -> Tag
-    ensures { result ≡ changes.tag_in row.now register }
-{
-    match row.get(register as usize) {
-        Some(tag) => *tag,
-        None => Tag::Bot,
-    }
-}
-
-/// The tag of a call's receiver.
-pub(crate) fn receiver_tag(row: &[Tag], args: &Args) -> Tag
-    ensures { result ≡ changes.tag_in row.now (receiver_of args.now) }
+/// The tag of the argument behind the receiver.
+fn argument_tag<R: Row>(row: &R, args: &Args) -> Tag
+    ensures { result ≡ tag_in (R.tags row.now) (argument_of args.now) }
 {
     match args {
-        Args::List { registers, .. } => tag_in(row, registers[0]),
-        Args::Range { first, .. } => tag_in(row, *first),
-    }
-}
-
-// The tag of the argument behind the receiver.
-fn argument_tag(row: &[Tag], args: &Args) -> Tag
-    ensures { result ≡ changes.tag_in row.now (argument_of args.now) }
-{
-    match args {
-        Args::List { registers, .. } => tag_in(row, registers[1]),
-        Args::Range { first, .. } => tag_behind(row, *first),
-    }
-}
-
-// The tag of the register behind one.
-fn tag_behind(row: &[Tag], register: u32) -> Tag
-    ensures { result ≡ changes.tag_in row.now (register + 1) }
-{
-    match row.get(register as usize + 1) {
-        Some(tag) => *tag,
-        None => Tag::Bot,
+        Args::List { registers, .. } => row.tag(registers[1] as usize),
+        Args::Range { first, .. } => row.tag(*first as usize + 1),
     }
 }
 
@@ -155,125 +147,118 @@ pub(crate) fn is_lock_call(usage: LockUse) -> bool
 }
 
 /// Whether a lock field that is read or written is this one.
-pub(crate) fn is_slot(lock: LockNo, slot: Option<LockNo>) -> bool
+pub(crate) fn is_slot(lock: LockNo, slot: LockNo) -> bool
     ensures { result ≡ spec.is_slot lock.0 slot }
 {
-    match slot {
-        Some(field) => field.0 == lock.0,
-        None => false,
+    slot.0 == lock.0
+}
+
+// ---- null
+
+fn null_of(lock: LockNo, tag: Tag) -> Nullness
+    ensures { result ≡ spec.nullness lock.0 tag }
+{
+    match tag {
+        Tag::Bot => Nullness::Nothing,
+        Tag::Zero => Nullness::Null,
+        Tag::Solid | Tag::New(_) => Nullness::NotNull,
+        Tag::Field(field) if field.0 == lock.0 => Nullness::Own,
+        Tag::Field(_) | Tag::Held(_) | Tag::Any | Tag::Mixed => Nullness::Unknown,
     }
 }
 
-// A call, by the tags of its receiver and of the argument behind it.
-fn call_passes(lock: LockNo, usage: LockUse, receiver: Tag, argument: Tag, s: u8) -> u8
+fn passes_null(of: Nullness, s: u8) -> u8
     requires { s < 8 }
-    ensures { result ≡ spec.call_passes lock.0 usage receiver argument s }
+    ensures { result ≡ spec.passes_null of s }
 {
-    match usage {
-        LockUse::Plain | LockUse::Make | LockUse::Wrong => passes_null_test(lock, receiver, s),
-        LockUse::Acquire => lock_call_passes(lock, &status::ACQUIRE_PASSES, receiver, s),
-        LockUse::Release => lock_call_passes(lock, &status::RELEASE_PASSES, receiver, s),
-        LockUse::IsHeld => lock_call_passes(lock, &status::IS_HELD_PASSES, receiver, s),
-        LockUse::Mode => mode_call_passes(lock, argument, receiver, s),
+    match of {
+        Nullness::Nothing | Nullness::Null => 0,
+        Nullness::Own => only_in(status::NONZERO_IF_NULL, s),
+        Nullness::NotNull | Nullness::Unknown => only(s),
     }
 }
 
-fn call_throws(lock: LockNo, usage: LockUse, receiver: Tag, argument: Tag, s: u8) -> u8
+fn fails_null(of: Nullness, s: u8) -> u8
     requires { s < 8 }
-    ensures { result ≡ spec.call_throws_with lock.0 usage receiver argument s }
+    ensures { result ≡ spec.fails_null of s }
 {
-    match usage {
-        LockUse::Plain | LockUse::Make | LockUse::Wrong => outside_throws(lock, receiver, s),
-        LockUse::Acquire => lock_call_throws(lock, &status::ACQUIRE_THROWS, receiver, s),
-        LockUse::Release => lock_call_throws(lock, &status::RELEASE_THROWS, receiver, s),
-        LockUse::IsHeld => lock_call_throws(lock, &status::CALL_THROWS, receiver, s),
-        LockUse::Mode => mode_call_throws(lock, argument, receiver, s),
+    match of {
+        Nullness::Nothing | Nullness::NotNull => 0,
+        Nullness::Own => only_in(status::ZERO_IF_NULL, s),
+        Nullness::Null | Nullness::Unknown => only(s),
     }
 }
 
-// setReferenceCounted, by the tag of its argument.
-fn mode_call_passes(lock: LockNo, argument: Tag, receiver: Tag, s: u8) -> u8
+fn passes_by<R: Row>(lock: LockNo, throws: Throws, row: &R, s: u8) -> u8
     requires { s < 8 }
-    ensures { result ≡ spec.lock_call_passes lock.0 (table.mode_passes argument) receiver s }
+    ensures { result ≡ spec.passes_by lock.0 throws (R.tags row.now) s }
 {
-    match argument {
-        Tag::Bot => lock_call_passes(lock, &status::NOWHERE, receiver, s),
-        Tag::Zero => lock_call_passes(lock, &status::UNCOUNTED_PASSES, receiver, s),
-        Tag::Solid => lock_call_passes(lock, &status::COUNTED_PASSES, receiver, s),
-        Tag::Held(_) | Tag::Any | Tag::Field(_) | Tag::New(_) | Tag::Mixed => {
-            lock_call_passes(lock, &status::EITHER_PASSES, receiver, s)
-        }
+    match throws {
+        Throws::Never | Throws::ByChoice => only(s),
+        Throws::WhereZero(register) => passes_null(null_of(lock, row.tag(register as usize)), s),
     }
 }
 
-fn mode_call_throws(lock: LockNo, argument: Tag, receiver: Tag, s: u8) -> u8
+fn throws_by<R: Row>(lock: LockNo, throws: Throws, row: &R, s: u8) -> u8
     requires { s < 8 }
-    ensures { result ≡ spec.lock_call_throws lock.0 (table.mode_throws argument) receiver s }
+    ensures { result ≡ spec.throws_by lock.0 throws (R.tags row.now) s }
 {
-    match argument {
-        Tag::Bot => lock_call_throws(lock, &status::NOWHERE, receiver, s),
-        _ => lock_call_throws(lock, &status::CALL_THROWS, receiver, s),
+    match throws {
+        Throws::Never => 0,
+        Throws::ByChoice => only(s),
+        Throws::WhereZero(register) => fails_null(null_of(lock, row.tag(register as usize)), s),
     }
 }
 
-// A lock call by a column of the status table.
-fn lock_call_passes(lock: LockNo, column: &[u8; 8], receiver: Tag, s: u8) -> u8
-    requires { s < 8 }
-    ensures { result ≡ spec.lock_call_passes lock.0 (slice_index column.now) receiver s }
-{
-    match receiver {
-        Tag::Bot | Tag::Zero => 0,
-        Tag::Field(field) if field.0 == lock.0 => column[s as usize],
-        _ => only(s),
-    }
-}
+// ---- tests
 
-fn lock_call_throws(lock: LockNo, column: &[u8; 8], receiver: Tag, s: u8) -> u8
+// A branch of a test against zero, the one that is taken where the value is zero, or the other one.
+fn test_passes(lock: LockNo, tag: Tag, zero: bool, s: u8) -> u8
     requires { s < 8 }
-    ensures { result ≡ spec.lock_call_throws lock.0 (slice_index column.now) receiver s }
+    ensures { result ≡ spec.test_passes lock.0 tag zero s }
 {
-    match receiver {
+    match tag {
         Tag::Bot => 0,
-        Tag::Field(field) if field.0 == lock.0 => column[s as usize],
-        _ => only(s),
+        Tag::Zero => only_if(zero, s),
+        Tag::Solid | Tag::New(_) => only_if(!zero, s),
+        Tag::Held(held) if held.0 == lock.0 => {
+            by_branch(zero, status::ZERO_IF_HELD, status::NONZERO_IF_HELD, s)
+        }
+        Tag::Field(field) if field.0 == lock.0 => {
+            by_branch(zero, status::ZERO_IF_NULL, status::NONZERO_IF_NULL, s)
+        }
+        Tag::Held(_) | Tag::Field(_) | Tag::Any | Tag::Mixed => only(s),
     }
 }
 
-// A call that leads outside throws by choice, where it is reached.
-fn outside_throws(lock: LockNo, receiver: Tag, s: u8) -> u8
+fn by_branch(zero: bool, if_zero: u8, if_nonzero: u8, s: u8) -> u8
     requires { s < 8 }
-    ensures { result ≡ spec.outside_throws lock.0 receiver s }
+    ensures { result ≡ spec.by_branch zero (spec.only_if (in_mask if_zero s) s) (spec.only_if (in_mask if_nonzero s) s) }
 {
-    fails_null_test(lock, receiver, s) | passes_null_test(lock, receiver, s)
-}
-
-// A receiver that must not be null.
-fn passes_null_test(lock: LockNo, receiver: Tag, s: u8) -> u8
-    requires { s < 8 }
-    ensures { result ≡ spec.passes_null_test lock.0 receiver s }
-{
-    match receiver {
-        Tag::Bot | Tag::Zero => 0,
-        Tag::Field(field) if field.0 == lock.0 => only_in(status::NONZERO_IF_NULL, s),
-        _ => only(s),
+    if zero {
+        only_in(if_zero, s)
+    } else {
+        only_in(if_nonzero, s)
     }
 }
 
-fn fails_null_test(lock: LockNo, receiver: Tag, s: u8) -> u8
+// ---- stores to lock fields
+
+fn write_passes<R: Row>(lock: LockNo, throws: Throws, row: &R, store: (u32, LockNo), s: u8) -> u8
     requires { s < 8 }
-    ensures { result ≡ spec.fails_null_test lock.0 receiver s }
+    ensures { result ≡ spec.if_passes (spec.passes_by lock.0 throws (R.tags row.now) s) (spec.slot_passes lock.0 store.1 (tag_in (R.tags row.now) store.0) s) }
 {
-    match receiver {
-        Tag::Bot | Tag::Solid | Tag::New(_) => 0,
-        Tag::Field(field) if field.0 == lock.0 => only_in(status::ZERO_IF_NULL, s),
-        _ => only(s),
+    let (from, slot) = store;
+    if passes_by(lock, throws, row, s) == 0 {
+        0
+    } else {
+        slot_passes(lock, slot, row.tag(from as usize), s)
     }
 }
 
-// A store to a static field, by the tag of the stored value.
-fn write_passes(lock: LockNo, slot: Option<LockNo>, stored: Tag, s: u8) -> u8
+fn slot_passes(lock: LockNo, slot: LockNo, stored: Tag, s: u8) -> u8
     requires { s < 8 }
-    ensures { result ≡ spec.write_passes lock.0 slot stored s }
+    ensures { result ≡ spec.slot_passes lock.0 slot stored s }
 {
     if is_slot(lock, slot) {
         stored_passes(stored, s)
@@ -293,6 +278,114 @@ fn stored_passes(stored: Tag, s: u8) -> u8
     }
 }
 
+// ---- calls
+
+fn receiver_nullness<R: Row>(lock: LockNo, by: By, row: &R, args: &Args) -> Nullness
+    ensures { result ≡ spec.receiver_nullness lock.0 by (R.tags row.now) args.now }
+{
+    match by {
+        By::Static => Nullness::NotNull,
+        By::Virtual | By::Super | By::Direct => null_of(lock, receiver_tag(row, args)),
+    }
+}
+
+// A call, by its receiver and the tag of the argument behind it.
+fn call_passes(usage: LockUse, outside: bool, receiver: Nullness, argument: Tag, s: u8) -> u8
+    requires { s < 8 }
+    ensures { result ≡ spec.call_passes usage outside receiver argument s }
+{
+    match usage {
+        LockUse::Plain => passes_outside(outside, receiver, s),
+        LockUse::Make | LockUse::Wrong => passes_outside(true, receiver, s),
+        LockUse::Acquire => lock_call_passes(&status::ACQUIRE_PASSES, receiver, s),
+        LockUse::Release => lock_call_passes(&status::RELEASE_PASSES, receiver, s),
+        LockUse::IsHeld => lock_call_passes(&status::IS_HELD_PASSES, receiver, s),
+        LockUse::Mode => mode_call_passes(argument, receiver, s),
+    }
+}
+
+fn call_throws(usage: LockUse, outside: bool, receiver: Nullness, argument: Tag, s: u8) -> u8
+    requires { s < 8 }
+    ensures { result ≡ spec.call_throws_with usage outside receiver argument s }
+{
+    match usage {
+        LockUse::Plain => throws_outside(outside, receiver, s),
+        LockUse::Make | LockUse::Wrong => throws_outside(true, receiver, s),
+        LockUse::Acquire => lock_call_throws(&status::ACQUIRE_THROWS, receiver, s),
+        LockUse::Release => lock_call_throws(&status::RELEASE_THROWS, receiver, s),
+        LockUse::IsHeld => lock_call_throws(&status::CALL_THROWS, receiver, s),
+        LockUse::Mode => mode_call_throws(argument, receiver, s),
+    }
+}
+
+fn passes_outside(outside: bool, receiver: Nullness, s: u8) -> u8
+    requires { s < 8 }
+    ensures { result ≡ spec.passes_outside outside receiver s }
+{
+    if outside {
+        passes_null(receiver, s)
+    } else {
+        0
+    }
+}
+
+fn throws_outside(outside: bool, receiver: Nullness, s: u8) -> u8
+    requires { s < 8 }
+    ensures { result ≡ spec.throws_outside outside receiver s }
+{
+    fails_null(receiver, s) | passes_outside(outside, receiver, s)
+}
+
+// setReferenceCounted by the tag of its argument.
+fn mode_call_passes(argument: Tag, receiver: Nullness, s: u8) -> u8
+    requires { s < 8 }
+    ensures { result ≡ spec.lock_call_passes (table.mode_passes argument) receiver s }
+{
+    match argument {
+        Tag::Bot => lock_call_passes(&status::NOWHERE, receiver, s),
+        Tag::Zero => lock_call_passes(&status::UNCOUNTED_PASSES, receiver, s),
+        Tag::Solid => lock_call_passes(&status::COUNTED_PASSES, receiver, s),
+        Tag::Held(_) | Tag::Any | Tag::Field(_) | Tag::New(_) | Tag::Mixed => {
+            lock_call_passes(&status::EITHER_PASSES, receiver, s)
+        }
+    }
+}
+
+fn mode_call_throws(argument: Tag, receiver: Nullness, s: u8) -> u8
+    requires { s < 8 }
+    ensures { result ≡ spec.lock_call_throws (table.mode_throws argument) receiver s }
+{
+    match argument {
+        Tag::Bot => lock_call_throws(&status::NOWHERE, receiver, s),
+        _ => lock_call_throws(&status::CALL_THROWS, receiver, s),
+    }
+}
+
+// A lock call by a column of the status table, which counts where its receiver is what the field holds.
+fn lock_call_passes(column: &[u8; 8], receiver: Nullness, s: u8) -> u8
+    requires { s < 8 }
+    ensures { result ≡ spec.lock_call_passes (slice_index column.now) receiver s }
+{
+    match receiver {
+        Nullness::Nothing | Nullness::Null => 0,
+        Nullness::Own => column[s as usize],
+        Nullness::NotNull | Nullness::Unknown => only(s),
+    }
+}
+
+fn lock_call_throws(column: &[u8; 8], receiver: Nullness, s: u8) -> u8
+    requires { s < 8 }
+    ensures { result ≡ spec.lock_call_throws (slice_index column.now) receiver s }
+{
+    match receiver {
+        Nullness::Nothing => 0,
+        Nullness::Own => column[s as usize],
+        Nullness::Null | Nullness::NotNull | Nullness::Unknown => only(s),
+    }
+}
+
+// ---- masks
+
 // The mask of one status.
 fn only(s: u8) -> u8
     requires { s < 8 }
@@ -301,14 +394,21 @@ fn only(s: u8) -> u8
     status::ONLY[s as usize]
 }
 
-// The same where the mask has it.
-fn only_in(mask: u8, s: u8) -> u8
+fn only_if(there: bool, s: u8) -> u8
     requires { s < 8 }
-    ensures { result ≡ spec.only_if (in_mask mask s) s }
+    ensures { result ≡ spec.only_if there s }
 {
-    if has_status(mask, s as usize) {
+    if there {
         only(s)
     } else {
         0
     }
+}
+
+// The mask of one status, where another mask has it.
+fn only_in(mask: u8, s: u8) -> u8
+    requires { s < 8 }
+    ensures { result ≡ spec.only_if (in_mask mask s) s }
+{
+    only_if(has_status(mask, s as usize), s)
 }

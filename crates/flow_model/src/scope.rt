@@ -1,32 +1,42 @@
 //! Tests of the scope rules on one instruction, by the tags before it.
 ghost use Rattle.std.specs.Prelude.{◌≡◌, ◌<◌, ◌≤◌, ◌&&◌, nat_le, Some};
 ghost use Rattle.flow_model.specs.Scope as spec;
-ghost use Rattle.flow_model.specs.Changes.{tag_in};
+ghost use Rattle.act_model.specs.Changes.{tag_in};
 ghost use Rattle.dalvik.specs.Calls.{args_len, arg_at};
 
-use crate::act::Act;
-use crate::passes::{is_lock_call, is_slot, receiver_tag, tag_in};
+use crate::passes::{is_lock_call, is_slot};
+use act_model::{Act, Row, receiver_tag};
 use app_model::{LockUse, Tag};
 use dalvik::Args;
 use ns_base::LockNo;
 
-/// Whether a lock goes where it is not followed: into a call, another field, or a lock field that does
-/// not take it.
-pub fn is_escape(act: Act, row: &[Tag]) -> bool
-    ensures { result ≡ spec.is_escape (Some act) row.now }
+/// Whether a lock goes where it is not followed: into a call, another field, an array or a throw, or a lock field that
+/// does not take it.
+pub fn is_escape<R: Row>(act: &Act, row: &R) -> bool
+    ensures { result ≡ spec.is_escape (Some act.now) (R.tags row.now) }
 {
-    match act {
+    match *act {
         Act::Call { usage, args, .. } => call_escapes(is_lock_call(usage), row, &args),
-        Act::WriteStatic { from, slot } => write_escapes(slot, tag_in(row, from)),
-        _ => false,
+        Act::WriteSlot { from, .. } => !may_be_stored(row.tag(from as usize)),
+        Act::Give { from, .. } => may_be_lock(row.tag(from as usize)),
+        Act::Fill { args, .. } => passes_lock(row, &args, 0),
+        Act::Throw { object } => may_be_lock(row.tag(object as usize)),
+        Act::Go
+        | Act::Test { .. }
+        | Act::Copy { .. }
+        | Act::TakeResult { .. }
+        | Act::Write { .. }
+        | Act::ReadSlot { .. }
+        | Act::Check { .. }
+        | Act::Return { .. } => false,
     }
 }
 
 /// Whether a call of a lock's method has an unknown form, or a receiver that is no lock.
-pub fn is_wrong_call(act: Act, row: &[Tag]) -> bool
-    ensures { result ≡ spec.is_wrong_call (Some act) row.now }
+pub fn is_wrong_call<R: Row>(act: &Act, row: &R) -> bool
+    ensures { result ≡ spec.is_wrong_call (Some act.now) (R.tags row.now) }
 {
-    match act {
+    match *act {
         Act::Call {
             usage: LockUse::Wrong,
             ..
@@ -39,17 +49,17 @@ pub fn is_wrong_call(act: Act, row: &[Tag]) -> bool
 }
 
 /// Whether a new lock is stored into a lock field.
-pub fn stores_new(lock: LockNo, act: Act, row: &[Tag]) -> bool
-    ensures { result ≡ spec.stores_new lock.0 (Some act) row.now }
+pub fn stores_new<R: Row>(lock: LockNo, act: &Act, row: &R) -> bool
+    ensures { result ≡ spec.stores_new lock.0 (Some act.now) (R.tags row.now) }
 {
-    match act {
-        Act::WriteStatic { from, slot } => is_slot(lock, slot) && is_new(tag_in(row, from)),
+    match *act {
+        Act::WriteSlot { from, slot, .. } => is_slot(lock, slot) && is_new(row.tag(from as usize)),
         _ => false,
     }
 }
 
-fn call_escapes(on_lock: bool, row: &[Tag], args: &Args) -> bool
-    ensures { result ≡ spec.call_escapes on_lock row.now args.now }
+fn call_escapes<R: Row>(on_lock: bool, row: &R, args: &Args) -> bool
+    ensures { result ≡ spec.call_escapes on_lock (R.tags row.now) args.now }
 {
     if on_lock {
         escapes_as_receiver(receiver_tag(row, args)) || passes_lock(row, args, 1)
@@ -59,8 +69,8 @@ fn call_escapes(on_lock: bool, row: &[Tag], args: &Args) -> bool
 }
 
 // Whether an argument of that number or a later one may be a lock.
-fn passes_lock(row: &[Tag], args: &Args, from: u32) -> bool
-    ensures { result ≡ spec.passes_lock row.now args.now from }
+fn passes_lock<R: Row>(row: &R, args: &Args, from: u32) -> bool
+    ensures { result ≡ spec.passes_lock (R.tags row.now) args.now from }
 {
     for k in 0..arg_count(args) {
         if is_lock_argument(row, args, from, k) {
@@ -70,8 +80,8 @@ fn passes_lock(row: &[Tag], args: &Args, from: u32) -> bool
     false
 }
 
-fn is_lock_argument(row: &[Tag], args: &Args, from: u32, k: u32) -> bool
-    ensures { result ≡ (nat_le from k && spec.may_be_lock (tag_in row.now (arg_at args.now k))) }
+fn is_lock_argument<R: Row>(row: &R, args: &Args, from: u32, k: u32) -> bool
+    ensures { result ≡ (nat_le from k && spec.may_be_lock (tag_in (R.tags row.now) (arg_at args.now k))) }
 {
     from <= k && may_be_lock(argument_tag(row, args, k))
 }
@@ -86,27 +96,15 @@ fn arg_count(args: &Args) -> u32
 }
 
 // The tag of an argument.
-fn argument_tag(row: &[Tag], args: &Args, k: u32) -> Tag
-    ensures { result ≡ tag_in row.now (arg_at args.now k) }
+fn argument_tag<R: Row>(row: &R, args: &Args, k: u32) -> Tag
+    ensures { result ≡ tag_in (R.tags row.now) (arg_at args.now k) }
 {
     match args {
         Args::List { registers, .. } => match registers.get(k as usize) {
-            Some(register) => tag_in(row, *register),
-            None => tag_in(row, 0),
+            Some(register) => row.tag(*register as usize),
+            None => row.tag(0),
         },
-        Args::Range { first, .. } => match row.get(*first as usize + k as usize) {
-            Some(tag) => *tag,
-            None => Tag::Bot,
-        },
-    }
-}
-
-fn write_escapes(slot: Option<LockNo>, stored: Tag) -> bool
-    ensures { result ≡ spec.write_escapes slot stored }
-{
-    match slot {
-        None => may_be_lock(stored),
-        Some(_) => !may_be_stored(stored),
+        Args::Range { first, .. } => row.tag(*first as usize + k as usize),
     }
 }
 

@@ -1,4 +1,3 @@
-use Rattle.std.proofs.Common.{rules}
 use Rattle.app_link.proofs.SoundApp.{all_sound}
 use Rattle.app_link.proofs.linking.link.Goals as goal
 
