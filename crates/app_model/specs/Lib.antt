@@ -8,5 +8,8 @@ pub mod Hierarchy
 pub mod Slots
 pub mod Subtypes
 pub mod Components
+pub mod CallGraph
+pub mod TagTable
+pub mod Subject
 pub mod Ancestors
 pub mod Sound
