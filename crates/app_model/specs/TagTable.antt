@@ -4,7 +4,7 @@ use Rattle.std.specs.List.{All, range_with_len}
 use Rattle.ns_base.specs.declared.rows.LockNo.{LockNo}
 use Rattle.app_model.specs.declared.tag.Tag.{Tag}
 use Rattle.app_model.specs.declared.tag.Tag.TheVariants.{Bot, Zero, Solid, Held, Any, Field, New, Mixed}
-use Rattle.app_model.specs.declared.tag_table.TheConstants.{HELD, FIELD, NEW, CELLS}
+use Rattle.app_model.specs.declared.tag_table.TheConstants.{HELD, FIELD, NEW}
 
 abbrev pub lock_no : ℕ → LockNo
 lock_no l = record { 0 = l }
@@ -26,6 +26,10 @@ cell_of Mixed = 4
 cell_of (Held l) = HELD + l.0
 cell_of (Field l) = FIELD + l.0
 cell_of (New s) = NEW + s
+
+-- cells stand for locks and sites below 64
+abbrev pub cell_count : ℕ
+cell_count = NEW + 64
 
 -- a tag that has a cell of its own: its lock field or site is below 64
 abbrev pub HasCell : Tag → Type 0
@@ -62,4 +66,4 @@ tag_at table m i r = slice_index_or (row_at table m i) r Bot
 
 pub record IsTagTable (table : TagParts) : Type 0 where
   pub methods : length table.cells ≡ length table.registers
-  pub cells : All (λ (cells : List ℕ). All (λ cell. cell < CELLS) cells) table.cells
+  pub cells : All (λ (cells : List ℕ). All (λ cell. cell < cell_count) cells) table.cells

@@ -1,6 +1,6 @@
 //! What is known of each register before each instruction.
-ghost use Rattle.std.specs.Prelude.{◌≡◌, ◌+◌, map};
-ghost use Rattle.app_model.specs.TagTable.{IsTagTable, HasCell, tag_of, cell_of, cell_at, width_at, tag_at};
+ghost use Rattle.std.specs.Prelude.{◌≡◌, ◌<◌, ◌+◌, map};
+ghost use Rattle.app_model.specs.TagTable.{IsTagTable, HasCell, cell_count, tag_of, cell_of, cell_at, width_at, tag_at};
 
 use crate::tag::Tag;
 use ns_base::{LockNo, MethodNo};
@@ -13,17 +13,16 @@ const FIELD: u16 = 69;
 
 const NEW: u16 = 133;
 
-/// How many cells there are.
-const CELLS: u16 = 197;
-
 // The tags without a number, by cell.
 const PLAIN: [Tag; 5] = [Tag::Bot, Tag::Zero, Tag::Solid, Tag::Any, Tag::Mixed];
 
 impl Tag {
     /// The tag of a cell of a tag table.
-    #[tactic(auto, unfolding(crate::specs::TagTable::tag_of))]
+    #[tactic(auto, using(crate::proofs::Cells::cell_again, crate::proofs::Cells::has_cell), unfolding(crate::specs::TagTable::tag_of))]
     pub fn of_cell(cell: u16) -> Tag
-        ensures { result ≡ tag_of cell }
+        ensures tag { result ≡ tag_of cell }
+        ensures back { cell < cell_count → cell_of result ≡ cell }
+        ensures fits { cell < cell_count → HasCell result }
     {
         if cell < HELD {
             PLAIN[cell as usize]
@@ -88,7 +87,8 @@ impl TagTable {
     /// What is known of a register before an instruction; `Bot` in a method that is not reached.
     #[tactic(auto, using(crate::proofs::Cells::tag_within, crate::proofs::Cells::tag_past))]
     pub fn tag(&self, method: MethodNo, index: u32, register: u32) -> Tag
-        ensures { result ≡ tag_at self.now method.0 index register }
+        ensures tag { result ≡ tag_at self.now method.0 index register }
+        ensures fits { HasCell result }
     {
         let registers = self.registers(method);
         if register > registers {
@@ -110,7 +110,8 @@ impl TagTable {
 
     #[tactic(auto, unfolding(crate::specs::TagTable::cell_at))]
     fn cell(&self, method: MethodNo, place: usize) -> u16
-        ensures { result ≡ cell_at self.now method.0 place }
+        ensures cell { result ≡ cell_at self.now method.0 place }
+        ensures fits { result < cell_count }
     {
         match self.cells.get(method.0 as usize) {
             Some(cells) => cells.get(place).copied().unwrap_or(0),
