@@ -1,3 +1,5 @@
+pub mod Callees
+pub mod Cells
 pub mod Descriptors
 pub mod Samples
 pub mod Searches

@@ -9,5 +9,8 @@ pub mod Hierarchy
 pub mod Slots
 pub mod Subtypes
 pub mod Components
+pub mod CallGraph
+pub mod TagTable
+pub mod Subject
 pub mod Ancestors
 pub mod Sound

@@ -38,3 +38,18 @@ impl Model for ComponentRow {
 
     ghost view = { λ c. record { class = c.class; kind = c.kind; exits = c.exits; methods = c.methods.items } };
 }
+
+/// The listed components; `ComponentNo(i)` is place i.
+#[derive(Drop)]
+pub struct ComponentTable {
+    pub rows: Vec<ComponentRow>,
+}
+
+impl Model for ComponentTable {
+    ghost use Rattle.std.specs.Prelude.{List};
+    ghost use Rattle.app_model.specs.Components.{ComponentParts};
+
+    ghost Value = { List ComponentParts };
+
+    ghost view = { λ t. t.rows.items };
+}

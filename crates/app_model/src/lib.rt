@@ -4,23 +4,31 @@
 //! - `names` spells types, names and prototypes.
 //! - `lock_use` and `slots` tell calls and fields of wake locks apart from others.
 //! - `component` has the components and their lifecycles.
-//! - `tag` is what is known of a register's value.
+//! - `tag` is what is known of a register's value; `tag_table` has it before each instruction.
+//! - `call_graph` has what each call can call.
+//! - `subject` joins them: the rules read it.
 #![tactic(auto)]
 
 mod app;
+mod call_graph;
 mod component;
 mod lock_use;
 mod names;
 mod rows;
 mod slots;
+mod subject;
 mod tag;
+mod tag_table;
 
 pub use app::App;
-pub use component::{ComponentRow, Edge, Kind};
+pub use call_graph::{CallGraph, TargetRow};
+pub use component::{ComponentRow, ComponentTable, Edge, Kind};
 pub use lock_use::LockUse;
 pub use names::{POWER_MANAGER, STRING, WAKE_LOCK};
 pub use rows::{AppRows, ClassRow, FieldRow, MethodRow, Named, NamedField, Operand, ProtoRow};
+pub use subject::Subject;
 pub use tag::Tag;
+pub use tag_table::TagTable;
 
 #[cfg(test)]
 mod tests;

@@ -4,6 +4,7 @@ use ns_base::{ClassNo, FieldNo, NameNo, TypeNo};
 use std::test::Fail;
 
 mod locks;
+mod tags;
 
 #[test]
 fn rows_are_read_back(rt: HostRuntime) -> Result<(), Fail> {
