@@ -1,3 +1,4 @@
 pub mod Descriptors
+pub mod HierarchyLaws
 pub mod Samples
 pub mod Searches

@@ -4,11 +4,13 @@
 //! - `names` spells types, names and prototypes.
 //! - `lock_use` and `slots` tell calls and fields of wake locks apart from others.
 //! - `component` has the components and their lifecycles.
+//! - `laws` has what holds of every application.
 //! - `tag` is what is known of a register's value.
 #![tactic(auto)]
 
 mod app;
 mod component;
+mod laws;
 mod lock_use;
 mod names;
 mod rows;
@@ -17,6 +19,7 @@ mod tag;
 
 pub use app::App;
 pub use component::{ComponentRow, Edge, Kind};
+pub use laws::hierarchy_law;
 pub use lock_use::LockUse;
 pub use names::{POWER_MANAGER, STRING, WAKE_LOCK};
 pub use rows::{AppRows, ClassRow, FieldRow, MethodRow, Named, NamedField, Operand, ProtoRow};
