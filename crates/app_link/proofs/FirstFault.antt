@@ -9,8 +9,8 @@ use Rattle.app_link.specs.declared.code_checks.CodeWrong.{CodeWrong}
 use Rattle.app_link.specs.declared.code_checks.CodeWrong.TheVariants.{Missing, Unwanted}
 use Rattle.dex_file.specs.Content.{FileContent}
 use Rattle.app_rows.specs.Linked.{linked}
-use Rattle.app_link.specs.LinkFaults.{◌or◌, duplicate_of, duplicate_fault, code_fault, code_fault_from, wrong_in_classes, units_fault, locks_fault}
-use Rattle.app_link.specs.Linking.{IsLinked, IsFinished, IsAcyclic, early_fault, late_fault}
+use Rattle.app_link.specs.LinkFaults.{◌or◌, duplicate_of, duplicate_fault, code_fault, code_fault_from, wrong_in_classes, units_fault, locks_fault, sites_fault}
+use Rattle.app_link.specs.Linking.{IsLinked, IsWithin, IsChecked, IsAcyclic, early_fault, late_fault}
 use Rattle.app_link.proofs.Ancestry.{at_get}
 
 abbrev IsEarly : Option LinkFault → Type 0
@@ -76,15 +76,15 @@ late_linked files (SuperCycle file row) early acyclic is = absurd (subst IsLate 
 late_linked files (Limit which) early acyclic is = (early, acyclic, is)
 late_linked files Memory early acyclic is = tt
 
-ended : (files : List FileContent) (result : Result AppParts LinkFault) → early_fault files ≡ None → IsAcyclic files → IsFinished (units_fault files) (linked files) result → IsLinked files result
-ended files (Ok app) early acyclic end = (end.0, early, acyclic, end.1)
+ended : (files : List FileContent) (result : Result AppParts LinkFault) → early_fault files ≡ None → IsAcyclic files → IsWithin (units_fault files) (linked files) result → IsChecked files result
+ended files (Ok rows) early acyclic end = (end.0, early, acyclic, end.1, end.2)
 ended files (Err fault) early acyclic end = late_linked files fault early acyclic end
 
 -- and so is what is found at last
-pub finished : (files : List FileContent) (rows : AppParts) (units : Option LinkFault) (result : Result AppParts LinkFault) → rows ≡ linked files → units ≡ units_fault files
-    → early_fault files ≡ None → IsAcyclic files → IsFinished units rows result → IsLinked files result
-finished files rows units result are is early acyclic end =
-    ended files result early acyclic (subst (λ r. IsFinished (units_fault files) r result) are (subst (λ u. IsFinished u rows result) is end))
+pub checked : (files : List FileContent) (rows : AppParts) (units : Option LinkFault) (result : Result AppParts LinkFault) → rows ≡ linked files → units ≡ units_fault files
+    → early_fault files ≡ None → IsAcyclic files → IsWithin units rows result → IsChecked files result
+checked files rows units result are is early acyclic end =
+    ended files result early acyclic (subst (λ r. IsWithin (units_fault files) r result) are (subst (λ u. IsWithin u rows result) is end))
 
 -- files that have an application have no other answer but want of memory
 pub linked_once : (files : List FileContent) (app : AppParts) (other : Result AppParts LinkFault) → IsLinked files (Ok app) → IsLinked files other → (other ≡ Ok app) ⊎ (other ≡ Err Memory)

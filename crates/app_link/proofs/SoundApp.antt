@@ -12,6 +12,7 @@ use Rattle.ns_base.specs.declared.answers.Counted.TheVariants.{Units}
 use Rattle.app_model.specs.declared.rows.FieldRow.{FieldRow}
 use Rattle.app_model.specs.Names.{type_text, wake_lock_name}
 use Rattle.app_model.specs.Parts.{AppParts}
+use Rattle.app_model.specs.Words.{IsApp}
 use Rattle.app_model.specs.Sound.{AreDistinct, AreLocks, IsSoundApp}
 use Rattle.dex_file.specs.declared.parts.FileMethod.{FileMethod}
 use Rattle.dex_file.specs.Content.{ClassContent, FileContent}
@@ -28,7 +29,7 @@ use Rattle.app_link.specs.declared.link_fault.LinkFault.TheVariants.{Limit}
 use Rattle.app_link.specs.declared.class_checks.Repeat.{Repeat}
 use Rattle.app_link.specs.declared.code_checks.CodeWrong.TheVariants.{Missing, Unwanted}
 use Rattle.app_link.specs.LinkFaults.{◌or◌, above, class_counts, class_names, duplicate_fault, locks_fault, sites_fault, units_fault, code_fault, code_fault_from, duplicate_of, is_wrong, repeat_at, repeat_from, wrong_in, wrong_in_class, wrong_in_classes}
-use Rattle.app_link.specs.Linking.{IsAcyclic, IsLinked, early_fault, late_fault}
+use Rattle.app_link.specs.Linking.{IsAcyclic, IsChecked, IsLinked, early_fault, late_fault}
 use Rattle.app_link.proofs.Ancestry.{at_get}
 
 none_both : {A : Type 0} (a b : Option A) → (a or b) ≡ None → (a ≡ None) × (b ≡ None)
@@ -192,13 +193,13 @@ linked_locks files = are_locks (app_of (seen_in files) (members_in (seen_in file
 units_few : (n : ℕ) → above Units n ≡ None → n ≤ 4194304
 units_few n h = ⊎_elim (λ (yes : nat_lt 4194304 n ≡ true). absurd (let some : Some (Limit Units) ≡ None = rw yes at h in let no : ⊥ = cc in no)) (λ (no : nat_lt 4194304 n ≡ false). not_more 4194304 n no) (cases_Bool (nat_lt 4194304 n))
 
-linked_sound : (files : List FileContent) → All IsSoundFile files → early_fault files ≡ None → IsAcyclic files → late_fault files ≡ None → IsSoundApp (linked files)
-linked_sound files are early acyclic late =
+linked_sound : (files : List FileContent) → All IsSoundFile files → IsApp (linked files) → early_fault files ≡ None → IsAcyclic files → units_fault files ≡ None → IsSoundApp (linked files)
+linked_sound files are sizes early acyclic few =
     let first = none_both (duplicate_fault files) (code_fault_from Missing 0 files or code_fault_from Unwanted 0 files) early in
     let coded = coded_files 0 files (none_both (code_fault_from Missing 0 files) (code_fault_from Unwanted 0 files) first.1).0 in
-    let few = (none_both (units_fault files) (locks_fault (linked files) or sites_fault (linked files)) late).0 in
     let once = spelled_once files in
     record {
+      sizes = sizes;
       ranges = in_range files are;
       once = record {
         types = once.0;
@@ -213,10 +214,13 @@ linked_sound files are early acyclic late =
       instructions = let most = units_few (sum_by (λ (file : FileContent). file.units) files) few in let less = instructions_few files are in omega arith;
     }
 
-pub app_sound : (files : List FileContent) (app : AppParts) → All IsContent files → IsLinked files (Ok app) → IsSoundApp app
-app_sound files app are is =
-    subst IsSoundApp (sym is.0) (linked_sound files (λ k d below. content_sound (get_or files k d) (are k d below)) is.1 is.2 is.3)
+contents_sound : (files : List FileContent) (app : AppParts) → All IsContent files → IsApp app → app ≡ linked files → early_fault files ≡ None → IsAcyclic files → units_fault files ≡ None → IsSoundApp app
+contents_sound files app are sizes is early acyclic few =
+    subst IsSoundApp (sym is) (linked_sound files (λ k d below. content_sound (get_or files k d) (are k d below)) (subst IsApp is sizes) early acyclic few)
 
-pub all_sound : (files : List FileContent) (result : Result AppParts LinkFault) → All IsContent files → IsLinked files result → IfOk result IsSoundApp
-all_sound files (Ok app) are is = app_sound files app are is
-all_sound files (Err fault) are is = tt
+pub app_sound : (files : List FileContent) (app : AppParts) → All IsContent files → IsApp app → IsLinked files (Ok app) → IsSoundApp app
+app_sound files app are sizes is =
+    contents_sound files app are sizes is.0 is.1 is.2 (none_both (units_fault files) (locks_fault (linked files) or sites_fault (linked files)) is.3).0
+
+pub rows_sound : (files : List FileContent) (rows : AppParts) → All IsContent files → IsApp rows → IsChecked files (Ok rows) → IsSoundApp rows
+rows_sound files rows are sizes is = contents_sound files rows are sizes is.0 is.1 is.2 is.3

@@ -24,10 +24,10 @@ early_fault files = duplicate_fault files or (code_fault_from Missing 0 files or
 abbrev pub late_fault : List FileContent → Option LinkFault
 late_fault files = units_fault files or (locks_fault (linked files) or sites_fault (linked files))
 
--- rows that are an application, with no fault of this kind
-abbrev pub IsFinished : Option LinkFault → AppParts → Result AppParts LinkFault → Type 0
-IsFinished units rows (Ok app) = (app ≡ rows) × ((units or (locks_fault rows or sites_fault rows)) ≡ None)
-IsFinished units rows (Err fault) = (units or (locks_fault rows or sites_fault rows)) ≡ Some fault
+-- rows within the limits of code units and lock fields
+abbrev pub IsWithin : Option LinkFault → AppParts → Result AppParts LinkFault → Type 0
+IsWithin units rows (Ok same) = (same ≡ rows) × (units ≡ None) × (locks_fault rows ≡ None)
+IsWithin units rows (Err fault) = (units or (locks_fault rows or sites_fault rows)) ≡ Some fault
 
 -- no class is its own ancestor
 abbrev pub IsAcyclic : List FileContent → Type 0
@@ -51,3 +51,8 @@ IsLinked files (Err (DuplicateClass file row earlier)) = early_fault files ≡ S
 IsLinked files (Err (CodeMissing file method)) = early_fault files ≡ Some (CodeMissing file method)
 IsLinked files (Err (CodeUnwanted file method)) = early_fault files ≡ Some (CodeUnwanted file method)
 IsLinked files (Err Memory) = Unit {0}
+
+-- the rows of the application where there is no fault but too many calls that make a lock, or else the first fault
+abbrev pub IsChecked : List FileContent → Result AppParts LinkFault → Type 0
+IsChecked files (Ok rows) = (rows ≡ linked files) × (early_fault files ≡ None) × IsAcyclic files × (units_fault files ≡ None) × (locks_fault (linked files) ≡ None)
+IsChecked files (Err fault) = IsLinked files (Err fault)

@@ -10,7 +10,7 @@ ghost use Rattle.dex_file.specs.Content.{FileContent};
 ghost use Rattle.dex_file.specs.Reading.{IsContent};
 ghost use Rattle.dex_file.specs.Sizes.{HasFewMembers};
 ghost use Rattle.app_rows.specs.Small.{AreSmall};
-ghost use Rattle.app_link.specs.Linking.{AreShort, IsLinked, IsFinished};
+ghost use Rattle.app_link.specs.Linking.{AreShort, IsChecked, IsLinked, IsWithin};
 
 use crate::class_checks::{count_classes, duplicate_fault, find_place, find_repeat};
 use crate::code_checks::{CodeWrong, find_code_fault};
@@ -52,21 +52,18 @@ fn early_fault(
     }
 }
 
-// The application, unless a limit is exceeded: that of code units first.
-fn finish(rows: AppRows, units: Option<LinkFault>) -> Result<App, LinkFault>
+// The rows, unless a limit is exceeded: that of code units first.
+fn limited(rows: AppRows, units: Option<LinkFault>) -> Result<AppRows, LinkFault>
     requires { length rows.locks ≤ 64 → IsApp rows }
-    ensures { IsFinished units rows result }
+    ensures within { IsWithin units rows result }
+    ensures sizes { IfOk result IsApp }
 {
     if let Some(fault) = units {
         return Err(fault);
     }
-    if let Some(fault) = above(Counted::Locks, rows.locks.len() as u128) {
-        return Err(fault);
-    }
-    let app = App::new(rows);
-    match find_sites_fault(&app) {
+    match above(Counted::Locks, rows.locks.len() as u128) {
         Some(fault) => Err(fault),
-        None => Ok(app),
+        None => Ok(rows),
     }
 }
 
@@ -83,10 +80,12 @@ fn take_parts(alloc: Global, files: Vec<DexParts>) -> Result<Vec<FileParts>, All
     Ok(taken)
 }
 
-/// The application of these contents, as `link` says.
-pub fn link_parts(alloc: Global, files: Vec<FileParts>) -> Result<App, LinkFault>
+/// The rows of the application of these contents, or the first fault, as `link` says: all faults but that
+/// of too many calls that make a lock.
+pub fn check_parts(alloc: Global, files: Vec<FileParts>) -> Result<AppRows, LinkFault>
     requires { AreSmall files.items }
-    ensures { IsLinked files.items result }
+    ensures checked { IsChecked files.items result }
+    ensures sizes { IfOk result IsApp }
 {
     let counts = count_classes(alloc, &files)?;
     let code = code_fault(&files);
@@ -99,25 +98,29 @@ pub fn link_parts(alloc: Global, files: Vec<FileParts>) -> Result<App, LinkFault
         let place = find_place(&counts, class);
         return Err(LinkFault::SuperCycle(place.file, place.row));
     }
-    finish(rows, units)
+    limited(rows, units)
 }
 
 /// The application of these files, or their first fault: two classes of one name; code that is
 /// missing, then code that is unwanted; a class that is its own ancestor; then the limits of code
-/// units, wake-lock fields and calls that make a lock. Each by file and row. `IsSoundApp` is all that the
-/// layers above may rely on.
+/// units, wake-lock fields and calls that make a lock. Each by file and row.
 pub fn link(alloc: Global, files: Vec<DexParts>) -> Result<App, LinkFault>
     requires { AreShort files.items }
     ensures linked { IsLinked files.items result }
     ensures sound { IfOk result IsSoundApp }
 {
     let parts = take_parts(alloc, files)?;
-    link_parts(alloc, parts)
+    let rows = check_parts(alloc, parts)?;
+    let app = App::new(rows);
+    match find_sites_fault(&app) {
+        Some(fault) => Err(fault),
+        None => Ok(app),
+    }
 }
 
 /// What holds of the application of files that were read: each number is a row of its table, what is
 /// spelled alike has one number, no class is its own ancestor, the lock fields are those of the wake
 /// lock's type, and code fits its methods.
 pub fn app_law()
-    ensures { (files : List FileContent) (app : AppParts) → All IsContent files → IsLinked files (Ok app) → IsSoundApp app }
+    ensures { (files : List FileContent) (app : AppParts) → All IsContent files → IsApp app → IsLinked files (Ok app) → IsSoundApp app }
 {}

@@ -4,13 +4,13 @@ ghost use Rattle.dex_file.specs.Sizes.{members_of};
 ghost use Rattle.app_rows.specs.Small.{AreSmall, IsSmall};
 
 use crate::LinkFault;
-use crate::linking::link_parts;
+use crate::linking::check_parts;
 use crate::ranks::rank_types;
-use app_model::{App, ClassRow};
+use app_model::{AppRows, ClassRow};
 use dalvik::Body;
 use dex_file::{FileClass, FileCode, FileField, FileMethod, FileParts, FileProto};
 use dex_tables::{FieldId, MethodId};
-use ns_base::{ClassNo, Counted, MethodNo, TypeNo};
+use ns_base::{ClassNo, Counted, TypeNo};
 use std::alloc::{AllocError, Global};
 use std::test::Fail;
 
@@ -190,12 +190,12 @@ fn are_small(files: &[FileParts]) -> bool
     true
 }
 
-fn link_forms(alloc: Global, forms: &[FileForm]) -> Result<App, LinkFault> {
+fn check_forms(alloc: Global, forms: &[FileForm]) -> Result<AppRows, LinkFault> {
     let files = files_of(alloc, forms)?;
     if !are_small(&files) {
         return Err(LinkFault::Memory);
     }
-    link_parts(alloc, files)
+    check_parts(alloc, files)
 }
 
 // Files, and their first fault.
@@ -296,18 +296,17 @@ const FAULTS: [(&[FileForm], LinkFault); 7] = [
 #[test]
 fn the_first_fault_is_told(rt: HostRuntime) -> Result<(), Fail> {
     for (forms, fault) in FAULTS {
-        assert_eq!(rt; link_forms(rt.alloc(), forms).err(), Some(fault));
+        assert_eq!(rt; check_forms(rt.alloc(), forms).err(), Some(fault));
     }
     Ok(())
 }
 
 #[test]
 fn as_many_locks_as_there_may_be(rt: HostRuntime) -> Result<(), Fail> {
-    let app = link_forms(rt.alloc(), &[FileForm { fields: 64, ..ONE }])
+    let rows = check_forms(rt.alloc(), &[FileForm { fields: 64, ..ONE }])
         .ok()
         .ok_or("the file links")?;
-    assert_eq!(rt; app.locks().len(), 64);
-    assert_eq!(rt; app.field_count(), 64);
+    assert_eq!(rt; (rows.locks.len(), rows.fields.len()), (64, 64));
     Ok(())
 }
 
@@ -332,20 +331,22 @@ const TWO: [FileForm; 2] = [
 
 #[test]
 fn types_have_first_seen_numbers(rt: HostRuntime) -> Result<(), Fail> {
-    let app = link_forms(rt.alloc(), &TWO).ok().ok_or("the files link")?;
-    assert_eq!(rt;
-        (app.type_count(), app.name_count(), app.proto_count()),
-        (3, 3, 2)
-    );
-    assert_eq!(rt; app.type_text(TypeNo(2)), b"LC;".as_slice());
-    assert_eq!(rt; app.class_text(ClassNo(0)), b"LB;".as_slice());
-    assert_eq!(rt; app.class_text(ClassNo(1)), b"LC;".as_slice());
-    if app.class_count() != 2 || app.method_count() != 1 {
-        return Err("two classes and one method".into());
+    let rows = check_forms(rt.alloc(), &TWO).ok().ok_or("the files link")?;
+    let texts: [&[u8]; 3] = [b"LA;", b"LB;", b"LC;"];
+    assert_eq!(rt; rows.types.len(), texts.len());
+    for (text, want) in rows.types.iter().zip(texts) {
+        assert_eq!(rt; text.as_slice(), want);
     }
-    assert_eq!(rt; app.class(ClassNo(1)).parent, Some(TypeNo(1)));
-    assert_eq!(rt; app.method(MethodNo(0)).class, ClassNo(1));
-    assert_eq!(rt; app.code_len(MethodNo(0)), 0);
+    assert_eq!(rt; (rows.names.len(), rows.protos.len()), (3, 2));
+    let [first, second] = rows.classes.as_slice() else {
+        return Err("two classes".into());
+    };
+    assert_eq!(rt; (first.name, first.parent), (TypeNo(1), None));
+    assert_eq!(rt; (second.name, second.parent), (TypeNo(2), Some(TypeNo(1))));
+    let [method] = rows.methods.as_slice() else {
+        return Err("one method".into());
+    };
+    assert_eq!(rt; method.class, ClassNo(1));
     Ok(())
 }
 

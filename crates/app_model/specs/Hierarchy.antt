@@ -1,12 +1,17 @@
 -- The class hierarchy, by the superclasses and interfaces that the files name: which type is a subtype of another, and
 -- what is found in a class or in the nearest one above it. Types and classes are told by number.
+<<<<<<< HEAD
 use Rattle.std.specs.Prelude.{ℕ, zero, suc, ◌==◌, ◌&&◌, ◌||◌, not, Bool, false, List, [], ◌∷◌, map, length, Option, Some, None, slice_get, slice_index_or, position, is_none, bit_and, bytes_eq, codes}
+=======
+use Rattle.std.specs.Prelude.{ℕ, zero, suc, ◌≡◌, ◌⊎◌, ◌↔◌, ◌==◌, ◌&&◌, ◌||◌, not, Bool, true, false, List, [], ◌∷◌, map, length, Option, Some, None, slice_get, slice_index_or, position, is_none, bit_and, bytes_eq, codes}
+>>>>>>> 1e985b7856087236df5af41ded292d41588508e8
 use Rattle.std.specs.List.{list_any, range_with_len}
 use Rattle.ns_base.specs.declared.rows.TypeNo.{TypeNo}
 use Rattle.ns_base.specs.declared.rows.FieldNo.{FieldNo}
 use Rattle.dalvik.specs.declared.access.TheConstants.{ABSTRACT}
 use Rattle.app_model.specs.declared.rows.FieldRow.{FieldRow}
 use Rattle.app_model.specs.declared.rows.MethodRow.{MethodRow}
+use Rattle.app_model.specs.Ancestors.{IsAncestor}
 use Rattle.app_model.specs.Names.{type_text}
 use Rattle.app_model.specs.Parts.{AppParts, ClassParts}
 
@@ -113,6 +118,10 @@ above_type app a = rounds app.classes (length app.types) (length app.types) (mar
 -- type a is type b, or b stands above it
 unfoldable pub is_sub : AppParts → (a b : ℕ) → Bool
 is_sub app a b = (a == b) || is_marked (above_type app a) b
+
+-- the test tells the types that stand above a type, and itself
+abbrev pub TellsSubtypes : AppParts → Type 0
+TellsSubtypes app = (a b : ℕ) → (is_sub app a b ≡ true) ↔ ((a ≡ b) ⊎ IsAncestor app.classes a b)
 
 -- ---- what an object may be of which the files do not say all
 abbrev pub object_name : List ℕ

@@ -21,7 +21,7 @@ use Rattle.dalvik.specs.Descriptors.{words_of}
 use Rattle.dalvik.specs.Calls.{args_len, is_static_call}
 use Rattle.app_model.specs.Names.{type_text, wake_lock_name}
 use Rattle.app_model.specs.Parts.{AppParts, ClassParts, ProtoParts}
-use Rattle.app_model.specs.Words.{code_len, ins_at, operand_at, no_body}
+use Rattle.app_model.specs.Words.{IsApp, code_len, ins_at, operand_at, no_body}
 
 -- ---- each number is a row of its table
 abbrev pub IsType : AppParts → TypeNo → Type 0
@@ -122,8 +122,9 @@ pub record IsSoundMethod (app : AppParts) (m : ℕ) (method : MethodRow) : Type 
   pub begins : is_bodiless method.flags ≡ false → 0 < code_len app m
   pub operands : (i : ℕ) (own : Ins) (operand : Operand) → ins_at app m i ≡ Some own → operand_at app m i ≡ Some operand → FitsOperand app own operand
 
--- ---- all of it, beside the sizes of the tables, which each application keeps
+-- ---- all of it
 pub record IsSoundApp (app : AppParts) : Type 0 where
+  pub sizes : IsApp app
   pub ranges : AreInRange app
   pub once : AreSpelledOnce app
   pub acyclic : (c : ℕ) (class : ClassParts) → slice_get app.classes c ≡ Some class → ¬ IsCyclic app.classes class

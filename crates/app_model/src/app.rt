@@ -1,6 +1,7 @@
 //! A linked application.
 ghost use Rattle.std.specs.Prelude.{◌≡◌, ◌<◌, length, slice_get, Some};
-ghost use Rattle.app_model.specs.Words.{IsApp, places_of, place_at, operand_at, code_len, ins_at, pc_at, successor_at, handler_at, leaves_at, named_at};
+ghost use Rattle.app_model.specs.Sound.{IsSoundApp};
+ghost use Rattle.app_model.specs.Words.{places_of, place_at, operand_at, code_len, ins_at, pc_at, successor_at, handler_at, leaves_at, named_at};
 
 use crate::rows::{AppRows, ClassRow, FieldRow, MethodRow, Named, Operand, ProtoRow};
 use dalvik::{Body, Ins, Place};
@@ -15,22 +16,29 @@ pub struct App {
 
 impl Model for App {
     ghost use Rattle.app_model.specs.Parts.{AppParts};
-    ghost use Rattle.app_model.specs.Words.{IsApp};
+    ghost use Rattle.app_model.specs.Sound.{IsSoundApp};
 
     ghost Value = { AppParts };
 
     ghost view = { λ a. a.rows };
 
-    ghost invariant = { λ a. IsApp a.rows };
+    ghost invariant = { λ a. IsSoundApp a.rows };
 }
 
 impl App {
     /// Takes no memory.
     pub fn new(rows: AppRows) -> App
-        requires { IsApp rows }
+        requires { IsSoundApp rows }
         ensures { result ≡ rows }
     {
         App { rows }
+    }
+
+    /// What holds of each application.
+    pub fn told(&self)
+        ensures { IsSoundApp self.now }
+    {
+        let _ = &self.rows;
     }
 
     pub fn type_count(&self) -> u32

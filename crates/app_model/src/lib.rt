@@ -4,6 +4,7 @@
 //! - `names` spells types, names and prototypes.
 //! - `lock_use` and `slots` tell calls and fields of wake locks apart from others.
 //! - `component` has the components and their lifecycles.
+//! - `laws` has what holds of every application.
 //! - `tag` is what is known of a register's value; `tag_table` has it before each instruction.
 //! - `call_graph` has what each call can call.
 //! - `subject` joins them: the rules read it.
@@ -12,6 +13,7 @@
 mod app;
 mod call_graph;
 mod component;
+mod laws;
 mod lock_use;
 mod names;
 mod rows;
@@ -23,6 +25,7 @@ mod tag_table;
 pub use app::App;
 pub use call_graph::{CallGraph, TargetRow};
 pub use component::{ComponentRow, ComponentTable, Edge, Kind};
+pub use laws::hierarchy_law;
 pub use lock_use::LockUse;
 pub use names::{POWER_MANAGER, STRING, WAKE_LOCK};
 pub use rows::{AppRows, ClassRow, FieldRow, MethodRow, Named, NamedField, Operand, ProtoRow};
