@@ -1,7 +1,7 @@
 //! The Dalvik bytecode as all layers see it: instructions, opcodes, registers, and bodies with their control flow.
 //!
 //! - `ins` has the instructions.
-//! - `opcode` names the opcodes, `access` the access flags; `wide` tells the opcodes of pairs.
+//! - `opcode` names the opcodes, `access` the access flags; `laws` gives each its number; `wide` tells the opcodes of pairs.
 //! - `few` is a short list of numbers that mostly takes no heap.
 //! - `body` has the places of a method's code: each instruction with where control can go from it.
 //!
@@ -13,12 +13,14 @@ pub mod access;
 mod body;
 mod few;
 mod ins;
+mod laws;
 pub mod opcode;
 mod wide;
 
 pub use body::{Body, Place};
 pub use few::Few;
 pub use ins::{Args, Ins};
+pub use laws::{access_law, opcode_law};
 pub use wide::{is_wide_binary, is_wide_const, is_wide_move, is_wide_unary};
 
 #[cfg(test)]
