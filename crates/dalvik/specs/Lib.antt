@@ -1,5 +1,6 @@
 pub mod Few
 pub mod Registers
+pub mod Naming
 pub mod Body
 pub mod Calls
 pub mod Descriptors

@@ -11,9 +11,10 @@ use Rattle.dalvik.specs.declared.ins.Ins.{Ins}
 use Rattle.dalvik.specs.declared.ins.Ins.TheVariants as ins
 use Rattle.dalvik.specs.Descriptors.{words_of}
 use Rattle.dalvik.specs.Calls.{args_len, is_static_call}
-use Rattle.method_graph.specs.declared.operands.Named.{Named}
-use Rattle.method_graph.specs.declared.operands.Named.TheVariants.{Nothing, Text, Kind, Field, Method}
-use Rattle.method_graph.specs.Operands.{named_of, unless_below, past_table, param_words, params_words, argument_words, has_its_args}
+use Rattle.dalvik.specs.declared.naming.Naming.{Naming}
+use Rattle.dalvik.specs.declared.naming.Naming.TheVariants.{Nothing, String, Kind, Field, Method}
+use Rattle.dalvik.specs.Naming.{naming_of}
+use Rattle.method_graph.specs.Operands.{unless_below, past_table, param_words, params_words, argument_words, has_its_args}
 use Rattle.dex_file.specs.Content.{FileContent, type_text, string_in}
 use Rattle.dex_file.specs.Sound.{IsThere, params_len, method_len, HasItsArgs, IsSoundIns}
 use Rattle.dex_file.proofs.SoundTables.{AreRowsOf, proto_said, entry_type}
@@ -31,9 +32,9 @@ below false n h = absurd cc
 is_below : (rows n len : ℕ) → len ≡ rows → unless_below rows n ≡ None → n < len
 is_below rows n len same h = let lt : n < rows = ltb-true n rows (below (nat_lt n rows) n h) in omega (arith, lt, same)
 
-there : (bs : List ℕ) (file : FileContent) → AreRowsOf bs file → (named : Named) → past_table bs named ≡ None → IsThere file named
+there : (bs : List ℕ) (file : FileContent) → AreRowsOf bs file → (named : Naming) → past_table bs named ≡ None → IsThere file named
 there bs file are Nothing h = tt
-there bs file are (Text s) h = is_below (string_count bs) s (length file.strings) are.strings.count h
+there bs file are (String s) h = is_below (string_count bs) s (length file.strings) are.strings.count h
 there bs file are (Kind t) h = is_below (type_count bs) t (length file.types) are.types.count h
 there bs file are (Field f) h = is_below (field_count bs) f (length file.fields) are.fields.count h
 there bs file are (Method m) h = is_below (method_count bs) m (length file.methods) are.methods.count h
@@ -67,14 +68,14 @@ method_said bs file are m low =
     ∙ ap (params_len file) (row_at file.protos (proto_count bs) (proto_said bs) p are.protos lt)
     ∙ params_said bs file are p lt
 
-has_args : (bs : List ℕ) (file : FileContent) → AreRowsOf bs file → (own : Ins) → IsThere file (named_of own) → has_its_args bs own ≡ true → HasItsArgs file own
+has_args : (bs : List ℕ) (file : FileContent) → AreRowsOf bs file → (own : Ins) → IsThere file (naming_of own) → has_its_args bs own ≡ true → HasItsArgs file own
 has_args bs file are (ins.Invoke op method arguments) named h =
     let low : method < method_count bs = omega (arith, named, are.methods.count) in
     eqb-true (args_len arguments) (argument_words bs (is_static_call op) method) h
     ∙ ap (λ (n : ℕ). (if is_static_call op then 0 else 1) + n) (sym (method_said bs file are method low))
 has_args bs file are own named h = tt
 
-pub sound_ins : (bs : List ℕ) (file : FileContent) → AreRowsOf bs file → (own : Ins) → past_table bs (named_of own) ≡ None → has_its_args bs own ≡ true → IsSoundIns file own
+pub sound_ins : (bs : List ℕ) (file : FileContent) → AreRowsOf bs file → (own : Ins) → past_table bs (naming_of own) ≡ None → has_its_args bs own ≡ true → IsSoundIns file own
 sound_ins bs file are own named arguments =
-    let is = there bs file are (named_of own) named in
+    let is = there bs file are (naming_of own) named in
     record { named = is; arguments = has_args bs file are own is arguments }

@@ -9,9 +9,9 @@ use Rattle.dalvik.specs.declared.ins.Ins.TheVariants as ins
 use Rattle.dalvik.specs.Body.{IsBody}
 use Rattle.dalvik.specs.Descriptors.{words_of}
 use Rattle.dalvik.specs.Calls.{args_len, is_static_call}
-use Rattle.method_graph.specs.declared.operands.Named.{Named}
-use Rattle.method_graph.specs.declared.operands.Named.TheVariants.{Nothing, Text, Kind, Field, Method}
-use Rattle.method_graph.specs.Operands.{named_of}
+use Rattle.dalvik.specs.declared.naming.Naming.{Naming}
+use Rattle.dalvik.specs.declared.naming.Naming.TheVariants.{Nothing, String, Kind, Field, Method}
+use Rattle.dalvik.specs.Naming.{naming_of}
 use Rattle.dex_file.specs.declared.parts.FileCode.{FileCode}
 use Rattle.dex_file.specs.declared.parts.FileField.{FileField}
 use Rattle.dex_file.specs.declared.parts.FileMethod.{FileMethod}
@@ -36,9 +36,9 @@ pub record IsSoundMethod (file : FileContent) (id : MethodId) : Type 0 where
   pub name : id.name < length file.strings
 
 -- what an instruction names is a row of its table
-abbrev pub IsThere : FileContent → Named → Type 0
+abbrev pub IsThere : FileContent → Naming → Type 0
 IsThere file Nothing = Unit {0}
-IsThere file (Text s) = s < length file.strings
+IsThere file (String s) = s < length file.strings
 IsThere file (Kind t) = IsType file t
 IsThere file (Field f) = f < length file.fields
 IsThere file (Method m) = m < length file.methods
@@ -59,7 +59,7 @@ HasItsArgs file (ins.Invoke op method arguments) =
 HasItsArgs file other = Unit {0}
 
 pub record IsSoundIns (file : FileContent) (own : Ins) : Type 0 where
-  pub named : IsThere file (named_of own)
+  pub named : IsThere file (naming_of own)
   pub arguments : HasItsArgs file own
 
 pub record IsSoundCode (file : FileContent) (code : FileCode) : Type 0 where

@@ -26,7 +26,8 @@ use Rattle.method_graph.specs.declared.flow.Flow.TheVariants.{Next, Pause, End, 
 use Rattle.method_graph.specs.Exact.{◌>>=◌, behind}
 use Rattle.method_graph.specs.Sweep.{stands, instructions_in, instruction_count, found_from, found_at, sweep_of}
 use Rattle.method_graph.specs.Registers.{first_past}
-use Rattle.method_graph.specs.Operands.{named_of, past_table, has_its_args}
+use Rattle.dalvik.specs.Naming.{naming_of}
+use Rattle.method_graph.specs.Operands.{past_table, has_its_args}
 use Rattle.method_graph.specs.Flow.{flow_of, goes_on, is_start, is_payload, front_of, index_to, index_or, indices_at, put_first, target_of, offsets_in, offsets_of, has_payload, successors_at}
 use Rattle.method_graph.specs.Tries.{index_if, indices_of, up_to_all, may_leave, catches_all, handlers_in, try_at, bad_target, lower}
 use Rattle.method_graph.specs.Graph.{unless_some, place_with, place_at, put_place, put_piece, places_of}
@@ -359,7 +360,7 @@ place_made : (bs : List ℕ) (code : CodeContent) (rows : List Row) (pc next : �
     → (all : List ℕ) × IsMade bs code rows pc i place all
 unfolding place_at
 place_made bs code rows pc next i place h =
-    let p = place_inv (first_past code.registers (registers_of i)) (past_table bs (named_of i)) (has_its_args bs i) (successors_at code.units rows pc next i) _ _ _
+    let p = place_inv (first_past code.registers (registers_of i)) (past_table bs (naming_of i)) (has_its_args bs i) (successors_at code.units rows pc next i) _ _ _
     (λ all. place_with bs rows (handlers_in code.handlers (try_at code.tries pc)) pc i all) place h in
     (p.0, record { named = p.1; successors = successors_are code.units rows pc next i p.0 p.2; is = p.3 })
 

@@ -15,7 +15,8 @@ use Rattle.method_graph.specs.declared.sweep.Found.{Found}
 use Rattle.method_graph.specs.Exact.{◌>>=◌}
 use Rattle.method_graph.specs.Flow.{is_start, successors_at}
 use Rattle.method_graph.specs.Graph.{IsCodeIn, unless_some, place_with, place_at, put_place, put_piece, places_of, pc_of, with_target, body_of, is_static, graph_by, graph_of}
-use Rattle.method_graph.specs.Operands.{named_of, past_table, has_its_args, argument_words}
+use Rattle.dalvik.specs.Naming.{naming_of}
+use Rattle.method_graph.specs.Operands.{past_table, has_its_args, argument_words}
 use Rattle.method_graph.specs.Registers.{first_past}
 use Rattle.method_graph.specs.Sweep.{stands, instructions_in, instruction_count, found_from, found_at, sweep_of}
 use Rattle.method_graph.specs.Tries.{bad_target, handlers_in, try_at}
@@ -27,12 +28,12 @@ pub record IsGraphOf (bs : List ℕ) (code : CodeContent) (body : BodyRows) : Ty
   pub registers : body.registers ≡ code.registers
   pub begins : 0 < length body.places
   pub units : length body.places ≤ length code.units
-  pub named : (k : ℕ) (d : Place) → k < length body.places → past_table bs (named_of (get_or body.places k d).ins) ≡ None
+  pub named : (k : ℕ) (d : Place) → k < length body.places → past_table bs (naming_of (get_or body.places k d).ins) ≡ None
   pub arguments : (k : ℕ) (d : Place) → k < length body.places → has_its_args bs (get_or body.places k d).ins ≡ true
 
 -- what a place names is in its table, and a call there has its arguments
 abbrev Fits : List ℕ → Place → Type 0
-Fits bs place = (past_table bs (named_of place.ins) ≡ None) × (has_its_args bs place.ins ≡ true)
+Fits bs place = (past_table bs (naming_of place.ins) ≡ None) × (has_its_args bs place.ins ≡ true)
 
 -- a place that was made passed both tests
 tests_inv : (register index : Option ℕ) (fits : Bool) (successors : Result (List ℕ) CodeFault) (f g : ℕ → CodeFault) (args : CodeFault) (make : List ℕ → Place) (place : Place)
@@ -49,7 +50,7 @@ place_fits : (bs : List ℕ) (code : CodeContent) (rows : List Row) (pc next : �
     → Fits bs place
 unfolding place_at
 place_fits bs code rows pc next i place h =
-    let p = tests_inv (first_past code.registers (registers_of i)) (past_table bs (named_of i)) (has_its_args bs i) (successors_at code.units rows pc next i) _ _ _
+    let p = tests_inv (first_past code.registers (registers_of i)) (past_table bs (naming_of i)) (has_its_args bs i) (successors_at code.units rows pc next i) _ _ _
     (λ all. place_with bs rows (handlers_in code.handlers (try_at code.tries pc)) pc i all) place h in
     rw p.3 (p.1, p.2)
 

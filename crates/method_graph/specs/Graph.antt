@@ -14,7 +14,8 @@ use Rattle.method_graph.specs.declared.sweep.Row.{Row}
 use Rattle.method_graph.specs.Exact.{◌>>=◌, behind}
 use Rattle.method_graph.specs.Sweep.{found_at, sweep_of}
 use Rattle.method_graph.specs.Registers.{first_past}
-use Rattle.method_graph.specs.Operands.{named_of, past_table, has_its_args, argument_words}
+use Rattle.dalvik.specs.Naming.{naming_of}
+use Rattle.method_graph.specs.Operands.{past_table, has_its_args, argument_words}
 use Rattle.method_graph.specs.Flow.{successors_at, is_start}
 use Rattle.method_graph.specs.Tries.{try_at, handlers_in, up_to_all, indices_of, may_leave, bad_target}
 
@@ -37,7 +38,7 @@ place_with bs rows handlers pc i successors = record {
 unfoldable pub place_at : List ℕ → CodeContent → List Row → ℕ → ℕ → Ins → Result Place CodeFault
 place_at bs code rows pc next i =
     unless_some (first_past code.registers (registers_of i)) (Register pc)
-    (unless_some (past_table bs (named_of i)) (Operand pc)
+    (unless_some (past_table bs (naming_of i)) (Operand pc)
     (if has_its_args bs i
     then (successors_at code.units rows pc next i >>= (λ successors. Ok (place_with bs rows (handlers_in code.handlers (try_at code.tries pc)) pc i successors)))
     else Err (ArgCount pc)))

@@ -1,4 +1,4 @@
--- What an instruction names in the id tables, and how many registers arguments take.
+-- Which indices are past their tables, and how many registers arguments take.
 use Rattle.std.specs.Prelude.{ℕ, ◌≡◌, ◌<◌, ◌^◌, ◌+◌, ◌==◌, nat_lt, Bool, true, List, if◌then◌else◌, Option, Some, None}
 use Rattle.std.specs.BTreeMap.{BTreeMap, get}
 use Rattle.std.specs.Ordering.{nat_cmp}
@@ -6,34 +6,19 @@ use Rattle.dalvik.specs.declared.ins.Ins.{Ins}
 use Rattle.dalvik.specs.declared.ins.Ins.TheVariants as ins
 use Rattle.dalvik.specs.Descriptors.{words_of}
 use Rattle.dalvik.specs.Calls.{args_len, is_static_call}
+use Rattle.dalvik.specs.declared.naming.Naming.{Naming}
+use Rattle.dalvik.specs.declared.naming.Naming.TheVariants.{Nothing, String, Kind, Field, Method}
 use Rattle.dex_tables.specs.Rows.{string_count, type_count, field_count, method_count, type_name, proto_params, method_proto, list_size, list_entry}
 use Rattle.dex_tables.specs.Sound.{sum_below}
-use Rattle.method_graph.specs.declared.operands.Named.{Named}
-use Rattle.method_graph.specs.declared.operands.Named.TheVariants.{Nothing, Text, Kind, Field, Method}
-
-abbrev pub named_of : Ins → Named
-named_of (ins.ConstString op to string) = Text string
-named_of (ins.ConstClass to kind) = Kind kind
-named_of (ins.CheckCast object kind) = Kind kind
-named_of (ins.InstanceOf to object kind) = Kind kind
-named_of (ins.NewInstance to kind) = Kind kind
-named_of (ins.NewArray to size kind) = Kind kind
-named_of (ins.FilledNewArray op kind arguments) = Kind kind
-named_of (ins.FieldGet op to object field) = Field field
-named_of (ins.FieldPut op value object field) = Field field
-named_of (ins.StaticGet op to field) = Field field
-named_of (ins.StaticPut op value field) = Field field
-named_of (ins.Invoke op method arguments) = Method method
-named_of _ = Nothing
 
 -- a number that is not below so many
 abbrev pub unless_below : ℕ → ℕ → Option ℕ
 unless_below rows n = if nat_lt n rows then None else Some n
 
 -- the index that is past its table
-abbrev pub past_table : List ℕ → Named → Option ℕ
+abbrev pub past_table : List ℕ → Naming → Option ℕ
 past_table bs Nothing = None
-past_table bs (Text i) = unless_below (string_count bs) i
+past_table bs (String i) = unless_below (string_count bs) i
 past_table bs (Kind i) = unless_below (type_count bs) i
 past_table bs (Field i) = unless_below (field_count bs) i
 past_table bs (Method i) = unless_below (method_count bs) i

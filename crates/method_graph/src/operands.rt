@@ -1,48 +1,19 @@
-//! What an instruction names in the id tables.
+//! Which indices are past their tables, and how many registers arguments take.
 ghost use Rattle.std.specs.Prelude.{◌≡◌, ◌<◌, ◌≤◌, ◌*◌, ◌^◌, None, IfOk};
 ghost use Rattle.dex_tables.specs.Content.{AreTablesOf};
 ghost use Rattle.dex_tables.specs.Rows.{list_size, list_entry, method_count, method_proto, proto_count, proto_params, type_count, type_name};
 ghost use Rattle.dalvik.specs.Descriptors.{words_of};
 ghost use Rattle.dalvik.specs.Calls.{args_len, is_static_call};
-ghost use Rattle.method_graph.specs.Operands.{AreSums, argument_words, has_its_args, named_of, param_type, param_words, params_words, past_table, unless_below};
+ghost use Rattle.dalvik.specs.Naming.{naming_of};
+ghost use Rattle.method_graph.specs.Operands.{AreSums, argument_words, has_its_args, param_type, param_words, params_words, past_table, unless_below};
 
-use dalvik::{Args, Ins, opcode};
+use dalvik::{Args, Ins, Naming, opcode};
 use dex_tables::{Tables, string_bytes};
 use std::alloc::AllocError;
 use std::collections::BTreeMap;
 
 /// For some prototypes, how many registers their parameters take.
 pub type ParamSums = BTreeMap<u32, u64>;
-
-/// A row of a table that an instruction names.
-#[derive(Clone, Copy)]
-pub enum Named {
-    Nothing,
-    Text(u32),
-    Kind(u32),
-    Field(u32),
-    Method(u32),
-}
-
-fn named_by(ins: Ins) -> Named
-    ensures { result ≡ named_of ins }
-{
-    match ins {
-        Ins::ConstString { string, .. } => Named::Text(string),
-        Ins::ConstClass { kind, .. }
-        | Ins::CheckCast { kind, .. }
-        | Ins::InstanceOf { kind, .. }
-        | Ins::NewInstance { kind, .. }
-        | Ins::NewArray { kind, .. }
-        | Ins::FilledNewArray { kind, .. } => Named::Kind(kind),
-        Ins::FieldGet { field, .. }
-        | Ins::FieldPut { field, .. }
-        | Ins::StaticGet { field, .. }
-        | Ins::StaticPut { field, .. } => Named::Field(field),
-        Ins::Invoke { method, .. } => Named::Method(method),
-        _ => Named::Nothing,
-    }
-}
 
 fn unless_row(rows: usize, row: u32) -> Option<u32>
     ensures { result ≡ unless_below rows row }
@@ -54,26 +25,19 @@ fn unless_row(rows: usize, row: u32) -> Option<u32>
     }
 }
 
-fn past_rows(bytes: &[u8], tables: &Tables, named: Named) -> Option<u32>
-    requires tables { AreTablesOf bytes.now tables.now }
-    ensures { result ≡ past_table bytes.now named }
-{
-    let _ = bytes;
-    match named {
-        Named::Nothing => None,
-        Named::Text(row) => unless_row(tables.strings.len(), row),
-        Named::Kind(row) => unless_row(tables.types.len(), row),
-        Named::Field(row) => unless_row(tables.fields.len(), row),
-        Named::Method(row) => unless_row(tables.methods.len(), row),
-    }
-}
-
 /// The index that the instruction names past its table.
 pub fn past_operand(bytes: &[u8], tables: &Tables, ins: Ins) -> Option<u32>
     requires tables { AreTablesOf bytes.now tables.now }
-    ensures { result ≡ past_table bytes.now (named_of ins) }
+    ensures { result ≡ past_table bytes.now (naming_of ins) }
 {
-    past_rows(bytes, tables, named_by(ins))
+    let _ = bytes;
+    match ins.named() {
+        Naming::Nothing => None,
+        Naming::String(row) => unless_row(tables.strings.len(), row),
+        Naming::Kind(row) => unless_row(tables.types.len(), row),
+        Naming::Field(row) => unless_row(tables.fields.len(), row),
+        Naming::Method(row) => unless_row(tables.methods.len(), row),
+    }
 }
 
 fn words_from(name: &[u8]) -> u64
@@ -193,7 +157,7 @@ pub fn fits_args(
     ins: Ins,
 ) -> Result<bool, AllocError>
     requires tables { AreTablesOf bytes.now tables.now }
-    requires operand { past_table bytes.now (named_of ins) ≡ None }
+    requires operand { past_table bytes.now (naming_of ins) ≡ None }
     requires sums { AreSums bytes.now sums.old }
     ensures fits { IfOk result (λ fits. fits ≡ has_its_args bytes.now ins) }
     ensures sums { AreSums bytes.now sums.new }
