@@ -1,10 +1,6 @@
 -- The class hierarchy, by the superclasses and interfaces that the files name: which type is a subtype of another, and
 -- what is found in a class or in the nearest one above it. Types and classes are told by number.
-<<<<<<< HEAD
-use Rattle.std.specs.Prelude.{ℕ, zero, suc, ◌==◌, ◌&&◌, ◌||◌, not, Bool, false, List, [], ◌∷◌, map, length, Option, Some, None, slice_get, slice_index_or, position, is_none, bit_and, bytes_eq, codes}
-=======
 use Rattle.std.specs.Prelude.{ℕ, zero, suc, ◌≡◌, ◌⊎◌, ◌↔◌, ◌==◌, ◌&&◌, ◌||◌, not, Bool, true, false, List, [], ◌∷◌, map, length, Option, Some, None, slice_get, slice_index_or, position, is_none, bit_and, bytes_eq, codes}
->>>>>>> 1e985b7856087236df5af41ded292d41588508e8
 use Rattle.std.specs.List.{list_any, range_with_len}
 use Rattle.ns_base.specs.declared.rows.TypeNo.{TypeNo}
 use Rattle.ns_base.specs.declared.rows.FieldNo.{FieldNo}
