@@ -5,4 +5,5 @@ pub mod Passes
 pub mod Scope
 pub mod Subject
 pub mod Rules
+pub mod Places
 pub mod Policy

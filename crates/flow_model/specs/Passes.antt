@@ -18,12 +18,9 @@ use Rattle.act_model.specs.declared.act.Throws.TheVariants.{Never, ByChoice, Whe
 use Rattle.act_model.specs.Changes.{tag_in}
 use Rattle.flow_model.specs.declared.passes.Nullness.{Nullness}
 use Rattle.flow_model.specs.declared.passes.Nullness.TheVariants.{Nothing, Null, NotNull, Own, Unknown}
-use Rattle.flow_model.specs.Status.{acquire_passes, acquire_throws, release_passes, release_throws, is_held_passes, call_throws, mode_passes, mode_throws, store_passes, null_passes, zero_if_null, nonzero_if_null, zero_if_held, nonzero_if_held}
+use Rattle.flow_model.specs.Status.{only, acquire_passes, acquire_throws, release_passes, release_throws, is_held_passes, call_throws, mode_passes, mode_throws, store_passes, null_passes, zero_if_null, nonzero_if_null, zero_if_held, nonzero_if_held}
 
--- ---- masks of the status before
-abbrev pub only : ℕ → ℕ
-only s = slice_index (0x01 ∷ 0x02 ∷ 0x04 ∷ 0x08 ∷ 0x10 ∷ 0x20 ∷ 0x40 ∷ 0x80 ∷ []) s
-
+-- ---- the mask of the status before, where a test holds
 abbrev pub only_if : Bool → ℕ → ℕ
 only_if true s = only s
 only_if false s = 0

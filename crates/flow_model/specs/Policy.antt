@@ -15,37 +15,30 @@ use Rattle.app_model.specs.Masks.{in_mask, is_held}
 use Rattle.flow_model.specs.Derived.{Set, HasAll, Derived}
 use Rattle.flow_model.specs.Passes.{is_field}
 use Rattle.flow_model.specs.Rules.{Rules, Carries}
-use Rattle.flow_model.specs.Subject.{SubjectParts}
+use Rattle.app_model.specs.Subject.{SubjectParts, answers_at, slot_count}
 
 -- an acquire of what lock field l holds
 abbrev pub acquires : ℕ → Option Act → List Tag → Bool
 acquires l (Some (Call by Acquire arguments gives)) row = is_field l (tag_in row (receiver_of arguments))
 acquires l act row = false
 
--- component c answers for lock field l: a callback of it acquires what the field holds
-pub record AnswersFor (x : SubjectParts) (c l : ℕ) : Type 0 where
-  pub callback : ℕ
-  pub method : ℕ
-  pub index : ℕ
-  pub entry : callback_at x.list c callback ≡ Some method
-  pub acquired : acquires l (act_at x.app method index) (x.tags method index) ≡ true
-
--- callback k of component c, an exit, can end at the held status s, where facts hold by P
-pub record IsViolation (x : SubjectParts) (l : ℕ) (P : List Fact → Type 0) (c k s : ℕ) : Type 0 where
+-- callback k of component c, an exit, can end at the held status s of lock field l, for which the component answers,
+-- where facts hold by P
+pub record IsViolation (x : SubjectParts) (carries : (c : ℕ) → Edge → (s t : ℕ) → List Fact → Type 0) (l : ℕ) (P : List Fact → Type 0) (c k s : ℕ) : Type 0 where
   pub state : ℕ
   pub before : ℕ
   pub number : ℕ
   pub edge : Edge
   pub needs : List Fact
-  pub lock : l < length x.app.locks
+  pub slot : l < slot_count x
   pub there : edge_at x.list c number ≡ Some edge
   pub from : edge.from ≡ state
   pub callback : edge.callback ≡ k
-  pub carries : Carries x l c edge before s needs
+  pub carried : carries c edge before s needs
   pub holds : P (View c state before ∷ needs)
   pub exit : in_mask (exits_at x.list c) k ≡ true
   pub held : is_held s ≡ true
-  pub answers : AnswersFor x c l
+  pub answers : answers_at x c l ≡ true
 
 -- no fact is given
 abbrev pub none_given : Set
@@ -53,10 +46,10 @@ none_given f = false
 
 -- the least solution of the rules has the violation
 abbrev pub IsDerivableViolation : SubjectParts → (l c k s : ℕ) → Type 0
-IsDerivableViolation x l c k s = IsViolation x l (Derived (Rules x l) none_given) c k s
+IsDerivableViolation x l c k s = IsViolation x (Carries x l) l (Derived (Rules x l) none_given) c k s
 
 abbrev pub MeetsPolicy : SubjectParts → ℕ → Set → Type 0
-MeetsPolicy x l set = (c k s : ℕ) → ¬ IsViolation x l (HasAll set) c k s
+MeetsPolicy x l set = (c k s : ℕ) → ¬ IsViolation x (Carries x l) l (HasAll set) c k s
 
 -- the order of reports
 abbrev pub ComesBefore : Violation → Violation → Type 0

@@ -1,7 +1,11 @@
 -- The status table: for each operation, and each status before it, the mask of the statuses after it.
-use Rattle.std.specs.Prelude.{ℕ, [], ◌∷◌, slice_index}
+use Rattle.std.specs.Prelude.{ℕ, List, [], ◌∷◌, map, slice_index}
 use Rattle.app_model.specs.declared.tag.Tag.{Tag}
 use Rattle.app_model.specs.declared.tag.Tag.TheVariants.{Bot, Zero, Solid, Held, Any, Field, New, Mixed}
+
+-- the mask of one status
+abbrev pub only : ℕ → ℕ
+only s = slice_index (0x01 ∷ 0x02 ∷ 0x04 ∷ 0x08 ∷ 0x10 ∷ 0x20 ∷ 0x40 ∷ 0x80 ∷ []) s
 
 -- acquire, where it returns; where it throws
 abbrev pub acquire_passes : ℕ → ℕ
@@ -59,12 +63,19 @@ mode_throws (Field l) = call_throws
 mode_throws (New k) = call_throws
 mode_throws Mixed = call_throws
 
--- a store of a new lock, and of null; a held lock is lost
+-- a store of a new lock; a held lock is lost
 abbrev pub store_passes : ℕ → ℕ
 store_passes s = slice_index (0x02 ∷ 0x02 ∷ 0x80 ∷ 0x80 ∷ 0x80 ∷ 0x02 ∷ 0x80 ∷ 0x80 ∷ []) s
 
+-- a store of null, or a clearing: the status after it, and its mask
+abbrev pub reset_column : List ℕ
+reset_column = 0 ∷ 0 ∷ 7 ∷ 7 ∷ 7 ∷ 0 ∷ 7 ∷ 7 ∷ []
+
+abbrev pub reset : ℕ → ℕ
+reset s = slice_index reset_column s
+
 abbrev pub null_passes : ℕ → ℕ
-null_passes s = slice_index (0x01 ∷ 0x01 ∷ 0x80 ∷ 0x80 ∷ 0x80 ∷ 0x01 ∷ 0x80 ∷ 0x80 ∷ []) s
+null_passes s = slice_index (map only reset_column) s
 
 -- the branches of a test whether the field is null, and of one whether its lock is held
 abbrev pub zero_if_null : ℕ

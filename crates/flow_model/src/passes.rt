@@ -389,7 +389,7 @@ fn lock_call_throws(column: &[u8; 8], receiver: Nullness, s: u8) -> u8
 // The mask of one status.
 fn only(s: u8) -> u8
     requires { s < 8 }
-    ensures { result ≡ spec.only s }
+    ensures { result ≡ table.only s }
 {
     status::ONLY[s as usize]
 }

@@ -57,11 +57,11 @@ is_lock Nonzero = false
 is_lock (Object type) = false
 is_lock (LockRef i) = true
 
-abbrev pub is_zero : Value → Bool
-is_zero Zero = true
-is_zero Nonzero = false
-is_zero (Object type) = false
-is_zero (LockRef i) = false
+abbrev pub is_null : Value → Bool
+is_null Zero = true
+is_null Nonzero = false
+is_null (Object type) = false
+is_null (LockRef i) = false
 
 -- ---- operations
 -- a new lock

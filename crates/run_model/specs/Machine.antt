@@ -2,33 +2,43 @@
 --
 -- A call of a method that the application declares goes outside as every other call does: no instruction enters a
 -- method of the application yet.
-use Rattle.std.specs.Prelude.{ℕ, zero, suc, pred, ◌-◌, ◌%◌, Bool, true, false, not, ◌&&◌, ◌||◌, ◌==◌, nat_le, if◌then◌else◌, List, [], ◌∷◌, ◌++◌, map, length, replicate, Option, Some, None, slice_get, slice_index, slice_index_or, slice_set, flat_map, position, bytes_eq}
+use Rattle.std.specs.Prelude.{ℕ, zero, suc, pred, ◌+◌, ◌%◌, Bool, true, false, not, ◌&&◌, ◌||◌, ◌==◌, nat_le, if◌then◌else◌, List, [], ◌∷◌, ◌++◌, map, length, replicate, Option, Some, None, slice_get, slice_index, slice_index_or, slice_set, flat_map, position, bytes_eq, codes}
 use Rattle.std.specs.List.{range_with_len}
 use Rattle.ns_base.specs.declared.rows.LockNo.{LockNo}
 use Rattle.ns_base.specs.declared.rows.TypeNo.{TypeNo}
 use Rattle.dalvik.specs.declared.body.Place.{Place}
-use Rattle.app_model.specs.declared.component.Edge.{Edge}
 use Rattle.dalvik.specs.declared.ins.Args.{Args}
+use Rattle.dalvik.specs.Calls.{args_len, arg_at, receiver_of, argument_of}
+use Rattle.dalvik.specs.Descriptors.{is_reference, words_of}
+use Rattle.app_model.specs.declared.component.Edge.{Edge}
 use Rattle.app_model.specs.declared.rows.MethodRow.{MethodRow}
 use Rattle.app_model.specs.declared.lock_use.LockUse.{LockUse}
 use Rattle.app_model.specs.declared.lock_use.LockUse.TheVariants.{Plain, Make, Acquire, Release, IsHeld, Mode, Wrong}
-use Rattle.app_model.specs.Parts.{AppParts, ClassParts, ProtoParts}
-use Rattle.app_model.specs.Words.{place_at, successor_at, leaves_at, named_at}
-use Rattle.app_model.specs.Names.{type_text, string_name}
 use Rattle.app_model.specs.Components.{ComponentParts, edges_of, edge_at, callback_at}
-use Rattle.flow_model.specs.declared.act.Gives.{Gives}
-use Rattle.flow_model.specs.declared.act.Gives.TheVariants as gives
-use Rattle.flow_model.specs.declared.act.Act.{Act}
-use Rattle.flow_model.specs.declared.act.Act.TheVariants.{Nop, ReturnVoid, TakeResult, WriteZero, WriteNonzero, WriteText, CheckCast, ReadStatic, WriteStatic, Call, Other}
-use Rattle.dalvik.specs.Calls.{receiver_of, argument_of, arg_at, args_len}
-use Rattle.dalvik.specs.Descriptors.{is_reference}
-use Rattle.flow_model.specs.Acts.{act_at}
-use Rattle.flow_model.specs.Entries.{site_at}
 use Rattle.app_model.specs.Masks.{any_below}
+use Rattle.app_model.specs.Names.{type_text, string_name}
+use Rattle.app_model.specs.Parts.{AppParts, ClassParts, ProtoParts}
+use Rattle.app_model.specs.Sites.{site_at}
+use Rattle.app_model.specs.Subject.{SubjectParts, slot_count}
+use Rattle.app_model.specs.Words.{place_at, successor_at, leaves_at, named_at}
+use Rattle.act_model.specs.declared.act.Act.{Act}
+use Rattle.act_model.specs.declared.act.Act.TheVariants.{Go, Test, Copy, TakeResult, Write, Fill, ReadSlot, WriteSlot, Give, Check, Throw, Return, Call}
+use Rattle.act_model.specs.declared.act.By.{By}
+use Rattle.act_model.specs.declared.act.By.TheVariants.{Virtual, Super, Direct, Static}
+use Rattle.act_model.specs.declared.act.Gives.{Gives}
+use Rattle.act_model.specs.declared.act.Gives.TheVariants as gives
+use Rattle.act_model.specs.declared.act.Returned.{Returned}
+use Rattle.act_model.specs.declared.act.Returned.TheVariants as returned
+use Rattle.act_model.specs.declared.act.Throws.{Throws}
+use Rattle.act_model.specs.declared.act.Throws.TheVariants.{Never, ByChoice, WhereZero}
+use Rattle.act_model.specs.declared.act.Written.{Written}
+use Rattle.act_model.specs.declared.act.Written.TheVariants as written
+use Rattle.act_model.specs.Acts.{act_at}
+use Rattle.act_model.specs.Changes.{is_pair, put}
+use Rattle.act_model.specs.Entries.{entry_row}
 use Rattle.flow_model.specs.Passes.{is_lock_call}
-use Rattle.flow_model.specs.Rules.{is_owner}
-use Rattle.flow_model.specs.Subject.{SubjectParts}
-use Rattle.run_model.specs.Heaps.{Value, Zero, Nonzero, Object, LockRef, Heap, cell, cell_value, held_value, is_lock, is_zero, is_owned, lock_at, with_new, with_count, with_mode, with_stored, with_null, with_cleared}
+use Rattle.flow_model.specs.Rules.{clears}
+use Rattle.run_model.specs.Heaps.{Value, Zero, Nonzero, Object, LockRef, Heap, cell, cell_value, held_value, is_lock, is_null, is_owned, lock_at, with_new, with_count, with_mode, with_stored, with_null, with_cleared}
 use Rattle.run_model.specs.Types.{may_receive}
 
 -- ---- states
@@ -76,9 +86,24 @@ answers_of app gives.Nothing = Zero ∷ []
 answers_of app gives.Number = free_numbers
 answers_of app gives.Object = free_references app
 
--- the type of strings, where the application names it
-abbrev pub text_value : AppParts → Value
-text_value app = Object (position (λ text. bytes_eq text string_name) app.types)
+-- an object of the type of a descriptor, or of a type that the application does not name
+abbrev pub object_of : AppParts → List ℕ → Value
+object_of app descriptor = Object (position (λ text. bytes_eq text descriptor) app.types)
+
+abbrev pub class_name : List ℕ
+class_name = codes "Ljava/lang/Class;"
+
+-- the values that may be written; of a pair those of each half
+abbrev pub written_values : AppParts → Written → List Value
+written_values app written.Zero = Zero ∷ []
+written_values app written.Nonzero = Nonzero ∷ []
+written_values app written.Number = free_numbers
+written_values app written.Reference = free_references app
+written_values app written.FreeObject = free_objects app
+written_values app written.Pair = free_numbers
+written_values app written.Text = object_of app string_name ∷ []
+written_values app written.ClassObject = object_of app class_name ∷ []
+written_values app (written.Typed kind) = Object (Some kind.0) ∷ []
 
 -- ---- on and off an instruction
 -- a register that is not there has no value
@@ -117,24 +142,56 @@ throws_from x at h (f ∷ rest) =
     map (λ i. Running at h (moved f i f.registers ∷ rest)) (handlers_of (place_at x.app f.method f.index))
     ++ (if leaves_at x.app f.method f.index then throws_from x at h rest else [])
 
--- ---- the instructions
--- a return from the last frame ends the callback
-abbrev pub ended : Callback → Heap → Option Edge → State
-ended at h None = Over Stuck
-ended at h (Some edge) = AtEnd (record { states = slice_set at.states at.component edge.to; component = at.component; edge = at.edge }) h
+-- ---- where an instruction throws
+-- by a register that must not be null
+abbrev pub null_options : SubjectParts → Callback → Heap → Frame → List Frame → Option Value → List State → List State
+null_options x at h f rest None normal = Over Stuck ∷ []
+null_options x at h f rest (Some v) normal = if is_null v then throws_from x at h (f ∷ rest) else normal
 
-abbrev pub returns : SubjectParts → Callback → Heap → List Frame → Value → State
-returns x at h [] v = ended at h (edge_at x.list at.component at.edge)
-returns x at h (f ∷ rest) v = answers x at h f rest v
+abbrev pub throws_options : SubjectParts → Callback → Heap → Frame → List Frame → Throws → List State → List State
+throws_options x at h f rest Never normal = normal
+throws_options x at h f rest ByChoice normal = normal ++ throws_from x at h (f ∷ rest)
+throws_options x at h f rest (WhereZero r) normal = null_options x at h f rest (register f r) normal
+
+-- ---- the instructions
+-- on by each successor; the nop before a payload has none
+abbrev pub stuck_if_none : List State → List State
+stuck_if_none [] = Over Stuck ∷ []
+stuck_if_none (state ∷ states) = state ∷ states
+
+abbrev pub successors_of : Option Place → List ℕ
+successors_of None = []
+successors_of (Some place) = place.successors
+
+abbrev pub go_options : SubjectParts → Callback → Heap → Frame → List Frame → List State
+go_options x at h f rest =
+    stuck_if_none (map (λ i. Running at h (moved f i f.registers ∷ rest)) (successors_of (place_at x.app f.method f.index)))
+
+-- the branch of a test by its value
+abbrev pub branch : (if_zero : ℕ) → (is_zero : Bool) → ℕ
+branch if_zero true = if_zero
+branch if_zero false = if if_zero == 0 then 1 else 0
+
+abbrev pub test_options : SubjectParts → Callback → Heap → Frame → List Frame → ℕ → Option Value → List State
+test_options x at h f rest if_zero None = Over Stuck ∷ []
+test_options x at h f rest if_zero (Some v) = goes_on x at h f rest f.registers (branch if_zero (is_null v)) ∷ []
+
+-- a copy, of a pair too: both are read before either is written
+abbrev pub copy_options : SubjectParts → Callback → Heap → Frame → List Frame → ℕ → (wide : Bool) → (first second : Option Value) → List State
+copy_options x at h f rest to wide None second = Over Stuck ∷ []
+copy_options x at h f rest to false (Some v) second = writes x at h f rest to v ∷ []
+copy_options x at h f rest to true (Some v) None = Over Stuck ∷ []
+copy_options x at h f rest to true (Some v) (Some w) = goes_on x at h f rest (put true f.registers to v w) 0 ∷ []
 
 abbrev pub take_options : SubjectParts → Callback → Heap → Frame → List Frame → ℕ → Option Value → List State
 take_options x at h f rest to None = Over Stuck ∷ []
 take_options x at h f rest to (Some v) = writes x at h f rest to v ∷ []
 
--- what a static field can give: a lock field what it holds, another one anything but a lock
-abbrev pub read_options : SubjectParts → Callback → Heap → Frame → List Frame → ℕ → Option LockNo → List State
-read_options x at h f rest to (Some l) = writes x at h f rest to (cell_value (cell h l.0)) ∷ []
-read_options x at h f rest to None = map (writes x at h f rest to) (free_references x.app)
+-- one value, or two of a pair, of which the first varies slowest
+abbrev pub written_options : SubjectParts → Callback → Heap → Frame → List Frame → ℕ → (wide : Bool) → List Value → List State
+written_options x at h f rest to false values = map (writes x at h f rest to) values
+written_options x at h f rest to true values =
+    flat_map (λ v. map (λ w. goes_on x at h f rest (put true f.registers to v w) 0) values) values
 
 -- a store to a lock field: of null, or of a lock that no field owned before
 abbrev pub store_options : SubjectParts → Callback → Heap → Frame → List Frame → ℕ → Value → List State
@@ -144,10 +201,37 @@ store_options x at h f rest l (Object type) = Over Stuck ∷ []
 store_options x at h f rest l (LockRef i) =
     if is_owned (lock_at h i).owner then Over Escape ∷ [] else goes_on x at (with_stored h l i) f rest f.registers 0 ∷ []
 
-abbrev pub write_options : SubjectParts → Callback → Heap → Frame → List Frame → Option LockNo → Option Value → List State
-write_options x at h f rest slot None = Over Stuck ∷ []
-write_options x at h f rest (Some l) (Some v) = store_options x at h f rest l.0 v
-write_options x at h f rest None (Some v) = if is_lock v then Over Escape ∷ [] else goes_on x at h f rest f.registers 0 ∷ []
+abbrev pub write_options : SubjectParts → Callback → Heap → Frame → List Frame → LockNo → Option Value → List State
+write_options x at h f rest l None = Over Stuck ∷ []
+write_options x at h f rest l (Some v) = store_options x at h f rest l.0 v
+
+-- a value goes where a lock is not followed
+abbrev pub give_options : SubjectParts → Callback → Heap → Frame → List Frame → Option Value → List State
+give_options x at h f rest None = Over Stuck ∷ []
+give_options x at h f rest (Some v) = if is_lock v then Over Escape ∷ [] else goes_on x at h f rest f.registers 0 ∷ []
+
+abbrev pub throw_options : SubjectParts → Callback → Heap → Frame → List Frame → Option Value → List State
+throw_options x at h f rest None = Over Stuck ∷ []
+throw_options x at h f rest (Some v) = if is_lock v then Over Escape ∷ [] else throws_from x at h (f ∷ rest)
+
+-- a return from the last frame ends the callback
+abbrev pub ended : Callback → Heap → Option Edge → State
+ended at h None = Over Stuck
+ended at h (Some edge) = AtEnd (record { states = slice_set at.states at.component edge.to; component = at.component; edge = at.edge }) h
+
+abbrev pub returns : SubjectParts → Callback → Heap → List Frame → Value → State
+returns x at h [] v = ended at h (edge_at x.list at.component at.edge)
+returns x at h (f ∷ rest) v = answers x at h f rest v
+
+abbrev pub return_by : SubjectParts → Callback → Heap → List Frame → Option Value → List State
+return_by x at h rest None = Over Stuck ∷ []
+return_by x at h rest (Some v) = returns x at h rest v ∷ []
+
+-- a pair is answered as zero
+abbrev pub return_options : SubjectParts → Callback → Heap → Frame → List Frame → Returned → List State
+return_options x at h f rest returned.Nothing = returns x at h rest Zero ∷ []
+return_options x at h f rest returned.Wide = returns x at h rest Zero ∷ []
+return_options x at h f rest (returned.Register r) = return_by x at h rest (register f r)
 
 -- ---- calls
 -- the receiver: a call without arguments has none
@@ -171,7 +255,7 @@ release_options x at h f rest i false n = answers x at (with_count h i 0) f rest
 -- setReferenceCounted
 abbrev pub mode_options : SubjectParts → Callback → Heap → Frame → List Frame → ℕ → Option Value → List State
 mode_options x at h f rest i None = Over Stuck ∷ []
-mode_options x at h f rest i (Some v) = answers x at (with_mode h i (not (is_zero v))) f rest Zero ∷ []
+mode_options x at h f rest i (Some v) = answers x at (with_mode h i (not (is_null v))) f rest Zero ∷ []
 
 -- a lock call on lock i, which a field owns
 abbrev pub operation_options : SubjectParts → Callback → Heap → Frame → List Frame → LockUse → Args → ℕ → List State
@@ -202,15 +286,30 @@ answer_options x at h f rest Release given = []
 answer_options x at h f rest IsHeld given = []
 answer_options x at h f rest Mode given = []
 
+abbrev pub outside_answers : SubjectParts → Callback → Heap → Frame → List Frame → LockUse → Gives → List State
+outside_answers x at h f rest usage given = answer_options x at h f rest usage given ++ throws_from x at h (f ∷ rest)
+
+-- an object as the receiver: of a virtual call it is one of the named class
+abbrev pub object_options : SubjectParts → Callback → Heap → Frame → List Frame → By → Option ℕ → List State → List State
+object_options x at h f rest Virtual type normal =
+    if may_receive x.app type (named_at x.app f.method f.index) then normal else Over Stuck ∷ []
+object_options x at h f rest Super type normal = normal
+object_options x at h f rest Direct type normal = normal
+object_options x at h f rest Static type normal = normal
+
 -- another call by its receiver, which is no lock; it may answer, or throw
-abbrev pub outside_options : SubjectParts → Callback → Heap → Frame → List Frame → LockUse → Gives → Option Value → List State
-outside_options x at h f rest usage given None = Over Stuck ∷ []
-outside_options x at h f rest usage given (Some Zero) = throws_from x at h (f ∷ rest)
-outside_options x at h f rest usage given (Some Nonzero) = Over Stuck ∷ []
-outside_options x at h f rest usage given (Some (LockRef i)) = Over Stuck ∷ []
-outside_options x at h f rest usage given (Some (Object type)) =
-    if may_receive x.app type (named_at x.app f.method f.index)
-    then answer_options x at h f rest usage given ++ throws_from x at h (f ∷ rest) else Over Stuck ∷ []
+abbrev pub receiver_options : SubjectParts → Callback → Heap → Frame → List Frame → By → Option Value → List State → List State
+receiver_options x at h f rest by None normal = Over Stuck ∷ []
+receiver_options x at h f rest by (Some Zero) normal = throws_from x at h (f ∷ rest)
+receiver_options x at h f rest by (Some Nonzero) normal = Over Stuck ∷ []
+receiver_options x at h f rest by (Some (LockRef i)) normal = Over Stuck ∷ []
+receiver_options x at h f rest by (Some (Object type)) normal = object_options x at h f rest by type normal
+
+abbrev pub outside_options : SubjectParts → Callback → Heap → Frame → List Frame → By → LockUse → Gives → Option Value → List State
+outside_options x at h f rest Static usage given receiver = outside_answers x at h f rest usage given
+outside_options x at h f rest Virtual usage given receiver = receiver_options x at h f rest Virtual receiver (outside_answers x at h f rest usage given)
+outside_options x at h f rest Super usage given receiver = receiver_options x at h f rest Super receiver (outside_answers x at h f rest usage given)
+outside_options x at h f rest Direct usage given receiver = receiver_options x at h f rest Direct receiver (outside_answers x at h f rest usage given)
 
 -- setReferenceCounted without an argument
 abbrev pub lacks_argument : LockUse → Option Value → Bool
@@ -229,45 +328,45 @@ full_lock_call_options x at h f rest usage arguments =
     then Over Stuck ∷ [] else lock_call_options x at h f rest usage arguments (receiver_in f arguments)
 
 -- a lock may be the receiver of a lock call, and no other argument of a call
-abbrev pub call_options : SubjectParts → Callback → Heap → Frame → List Frame → LockUse → Args → Gives → List State
-call_options x at h f rest usage arguments given =
+abbrev pub call_options : SubjectParts → Callback → Heap → Frame → List Frame → By → LockUse → Args → Gives → List State
+call_options x at h f rest by usage arguments given =
     if is_lock_call usage
     then (if gives_lock f arguments 1 then Over Escape ∷ [] else full_lock_call_options x at h f rest usage arguments)
-    else (if gives_lock f arguments 0 then Over Escape ∷ [] else outside_options x at h f rest usage given (receiver_in f arguments))
+    else (if gives_lock f arguments 0 then Over Escape ∷ [] else outside_options x at h f rest by usage given (receiver_in f arguments))
 
+-- an array of its arguments, in the result cell
+abbrev pub fill_options : SubjectParts → Callback → Heap → Frame → List Frame → Args → TypeNo → List State
+fill_options x at h f rest arguments kind =
+    if gives_lock f arguments 0 then Over Escape ∷ [] else answers x at h f rest (Object (Some kind.0)) ∷ []
+
+-- ---- every act
 abbrev pub act_options : SubjectParts → Callback → Heap → Frame → List Frame → Option Act → List State
 act_options x at h f rest None = Over Stuck ∷ []
-act_options x at h f rest (Some Nop) = goes_on x at h f rest f.registers 0 ∷ []
-act_options x at h f rest (Some ReturnVoid) = returns x at h rest Zero ∷ []
+act_options x at h f rest (Some Go) = go_options x at h f rest
+act_options x at h f rest (Some (Test value if_zero)) = test_options x at h f rest if_zero (register f value)
+act_options x at h f rest (Some (Copy to from wide)) = copy_options x at h f rest to wide (register f from) (register f (from + 1))
 act_options x at h f rest (Some (TakeResult to)) = take_options x at h f rest to (register f (result_index f))
-act_options x at h f rest (Some (WriteZero to)) = writes x at h f rest to Zero ∷ []
-act_options x at h f rest (Some (WriteNonzero to)) = writes x at h f rest to Nonzero ∷ []
-act_options x at h f rest (Some (WriteText to)) = writes x at h f rest to (text_value x.app) ∷ []
-act_options x at h f rest (Some CheckCast) = goes_on x at h f rest f.registers 0 ∷ throws_from x at h (f ∷ rest)
-act_options x at h f rest (Some (ReadStatic to slot)) = read_options x at h f rest to slot
-act_options x at h f rest (Some (WriteStatic from slot)) = write_options x at h f rest slot (register f from)
-act_options x at h f rest (Some (Call usage arguments given)) = call_options x at h f rest usage arguments given
-act_options x at h f rest (Some Other) = Over Stuck ∷ []
+act_options x at h f rest (Some (Write to what throws)) =
+    throws_options x at h f rest throws (written_options x at h f rest to (is_pair what) (written_values x.app what))
+act_options x at h f rest (Some (Fill arguments kind)) = fill_options x at h f rest arguments kind
+act_options x at h f rest (Some (ReadSlot to slot throws)) =
+    throws_options x at h f rest throws (writes x at h f rest to (cell_value (cell h slot.0)) ∷ [])
+act_options x at h f rest (Some (WriteSlot from slot throws)) =
+    throws_options x at h f rest throws (write_options x at h f rest slot (register f from))
+act_options x at h f rest (Some (Give from throws)) = throws_options x at h f rest throws (give_options x at h f rest (register f from))
+act_options x at h f rest (Some (Check throws)) = throws_options x at h f rest throws (goes_on x at h f rest f.registers 0 ∷ [])
+act_options x at h f rest (Some (Throw object)) = throw_options x at h f rest (register f object)
+act_options x at h f rest (Some (Return answer)) = return_options x at h f rest answer
+act_options x at h f rest (Some (Call by usage arguments given)) = call_options x at h f rest by usage arguments given
 
 -- ---- the start of a callback
--- types of two registers are long and double
-abbrev pub is_wide : List ℕ → Bool
-is_wide text = slice_index text 0 == 74 || slice_index text 0 == 68
-
 -- the values of an argument of a type, for each of its words
-abbrev pub words_of : AppParts → List ℕ → List (List Value)
-words_of app text =
-    if is_reference text then free_references app ∷ [] else (if is_wide text then free_numbers ∷ free_numbers ∷ [] else free_numbers ∷ [])
+abbrev pub argument_words : AppParts → List ℕ → List (List Value)
+argument_words app text = if is_reference text then free_references app ∷ [] else replicate (words_of text) free_numbers
 
-abbrev pub argument_words : AppParts → Option ProtoParts → List (List Value)
-argument_words app None = []
-argument_words app (Some proto) = flat_map (λ (t : TypeNo). words_of app (type_text app t.0)) proto.params
-
--- so many words: one that is left over is dropped, one that is missing is zero
-abbrev pub fitted : ℕ → List (List Value) → List (List Value)
-fitted zero words = []
-fitted (suc n) [] = (Zero ∷ []) ∷ fitted n []
-fitted (suc n) (word ∷ words) = word ∷ fitted n words
+abbrev pub parameter_words : AppParts → Option ProtoParts → List (List Value)
+parameter_words app None = []
+parameter_words app (Some proto) = flat_map (λ (t : TypeNo). argument_words app (type_text app t.0)) proto.params
 
 -- one value of each word, in every way; those of the first word vary slowest
 abbrev pub chosen : List (List Value) → List (List Value)
@@ -283,16 +382,12 @@ abbrev pub this_of : AppParts → Option ComponentParts → Value
 this_of app None = Object None
 this_of app (Some component) = Object (class_type (slice_get app.classes component.class.0))
 
--- the registers with which a method may begin as a callback of an object
+-- the registers with which a method may begin as a callback of an object: each word is chosen, and then they fill the
+-- argument registers
 abbrev pub entries_of : AppParts → Value → Option MethodRow → List (List Value)
 entries_of app this None = [] ∷ []
 entries_of app this (Some method) =
-    map (λ arguments. replicate (method.registers - method.ins) Zero ++ arguments ++ Zero ∷ [])
-    (chosen (fitted method.ins ((this ∷ []) ∷ argument_words app (slice_get app.protos method.proto.0))))
-
--- an edge that creates clears the lock fields that its component owns
-abbrev pub is_cleared : SubjectParts → ℕ → Edge → ℕ → Bool
-is_cleared x c edge l = edge.creates && is_owner (x.owners l) c
+    map (λ words. entry_row Zero method.registers method.ins (this ∷ words)) (chosen (parameter_words app (slice_get app.protos method.proto.0)))
 
 abbrev pub entered_frame : ℕ → List Value → Frame
 entered_frame m registers = record { method = m; index = 0; registers = registers }
@@ -300,9 +395,9 @@ entered_frame m registers = record { method = m; index = 0; registers = register
 -- edge e of component c: an edge without a method is at its end at once
 abbrev pub begins : SubjectParts → List ℕ → Heap → ℕ → ℕ → Edge → Option ℕ → List State
 begins x states h c e edge None =
-    AtEnd (record { states = slice_set states c edge.to; component = c; edge = e }) (with_cleared h (is_cleared x c edge)) ∷ []
+    AtEnd (record { states = slice_set states c edge.to; component = c; edge = e }) (with_cleared h (clears x c edge)) ∷ []
 begins x states h c e edge (Some m) =
-    map (λ registers. Running (record { states = states; component = c; edge = e }) (with_cleared h (is_cleared x c edge)) (entered_frame m registers ∷ []))
+    map (λ registers. Running (record { states = states; component = c; edge = e }) (with_cleared h (clears x c edge)) (entered_frame m registers ∷ []))
     (entries_of x.app (this_of x.app (slice_get x.list c)) (slice_get x.app.methods m))
 
 -- the starts of the edges that leave the state of component c; e numbers the first edge, c the first component
@@ -334,7 +429,7 @@ run_from x s [] = s
 run_from x s (k ∷ ks) = run_from x (step x k s) ks
 
 abbrev pub start_of : SubjectParts → State
-start_of x = Idle (replicate (length x.list) 0) (record { cells = replicate (length x.app.locks) None; locks = [] })
+start_of x = Idle (replicate (length x.list) 0) (record { cells = replicate (slot_count x) None; locks = [] })
 
 -- a whole run, by its choices
 abbrev pub run_of : SubjectParts → List ℕ → State

@@ -4,15 +4,14 @@ use Rattle.app_model.specs.declared.component.Edge.{Edge}
 use Rattle.app_model.specs.declared.tag.Tag.{Tag}
 use Rattle.app_model.specs.declared.tag.Tag.TheVariants as tag
 use Rattle.app_model.specs.Components.{edge_at, callback_at, exits_at}
-use Rattle.flow_model.specs.declared.act.Act.{Act}
-use Rattle.flow_model.specs.Acts.{act_at}
-use Rattle.flow_model.specs.Changes.{tag_in, thrown}
+use Rattle.act_model.specs.declared.act.Act.{Act}
+use Rattle.act_model.specs.Acts.{act_at}
+use Rattle.act_model.specs.Changes.{tag_in, thrown}
 use Rattle.flow_model.specs.Derived.{Set}
 use Rattle.app_model.specs.Facts.{View, At, Ret}
 use Rattle.app_model.specs.Masks.{in_mask, is_held}
-use Rattle.flow_model.specs.Policy.{AnswersFor}
 use Rattle.flow_model.specs.Rules.{entered}
-use Rattle.flow_model.specs.Subject.{SubjectParts}
+use Rattle.app_model.specs.Subject.{SubjectParts, answers_at, row_at, slot_count}
 use Rattle.run_model.specs.Heaps.{Value, Zero, Nonzero, Object, LockRef, Heap, cell, cell_value, held_value, is_lock, lock_at, status}
 use Rattle.run_model.specs.Machine.{Callback, Frame, State, Idle, Running, AtEnd, Over, Reason, Uncaught, Stuck, Escape}
 use Rattle.run_model.specs.Tagged.{IsEntered}
@@ -80,7 +79,7 @@ pub record IsWaiting (x : SubjectParts) (set : Set) (h : Heap) (f : Frame) (n es
   pub entered : IsEntered x f.method
   pub at : set (At f.method e f.index es) ≡ true
   pub call : Calls (act_at x.app f.method f.index) n
-  pub registers : (a : Act) → act_at x.app f.method f.index ≡ Some a → AreTagged (thrown a (x.tags f.method f.index)) f.registers lo hi h
+  pub registers : (a : Act) → act_at x.app f.method f.index ≡ Some a → AreTagged (thrown a (row_at x f.method f.index)) f.registers lo hi h
 
 -- the frames below a method n that was entered at status `es` when there were `hi` locks;
 -- the first one is the callback's method, entered at the status at which the callback began
@@ -96,7 +95,7 @@ pub record IsTop (x : SubjectParts) (l : ℕ) (set : Set) (root s0 : ℕ) (h : H
   pub from : lo ≤ length h.locks
   pub entered : IsEntered x f.method
   pub at : set (At f.method e f.index (status h l)) ≡ true
-  pub registers : AreTagged (x.tags f.method f.index) f.registers lo (length h.locks) h
+  pub registers : AreTagged (row_at x f.method f.index) f.registers lo (length h.locks) h
   pub below : Below x set root s0 h rest f.method e lo
 
 abbrev pub IsStack : SubjectParts → ℕ → Set → (root s0 : ℕ) → Heap → List Frame → Type 0
@@ -122,7 +121,7 @@ pub record IsRunning (x : SubjectParts) (l : ℕ) (set : Set) (at : Callback) (h
   pub root : ℕ
   pub s0 : ℕ
   pub callback : IsCallback x set at edge root s0
-  pub heap : IsHeap (length x.app.locks) h
+  pub heap : IsHeap (slot_count x) h
   pub stack : IsStack x l set root (entered x l at.component edge s0) h frames
 
 -- a callback that has just returned
@@ -135,7 +134,7 @@ pub record IsEnded (x : SubjectParts) (l : ℕ) (set : Set) (at : Callback) (h :
   pub same_component : before.component ≡ at.component
   pub same_edge : before.edge ≡ at.edge
   pub states : at.states ≡ slice_set before.states before.component edge.to
-  pub heap : IsHeap (length x.app.locks) h
+  pub heap : IsHeap (slot_count x) h
   pub ret : set (Ret root (entered x l before.component edge s0) (status h l)) ≡ true
 
 -- a run is never over since a lock went where it is not followed
@@ -154,13 +153,13 @@ IsInside x l set (Over why) = NoEscape why
 -- ---- between callbacks
 pub record IsIdle (x : SubjectParts) (l : ℕ) (set : Set) (states : List ℕ) (h : Heap) : Type 0 where
   pub views : AreViews x set states (status h l)
-  pub heap : IsHeap (length x.app.locks) h
+  pub heap : IsHeap (slot_count x) h
 
 -- at an exit of a component that answers for l, no lock of l is held
 abbrev pub ExitsWell : SubjectParts → ℕ → Callback → Heap → Type 0
 ExitsWell x l at h =
     (edge : Edge) → edge_at x.list at.component at.edge ≡ Some edge → in_mask (exits_at x.list at.component) edge.callback ≡ true
-    → AnswersFor x at.component l → is_held (status h l) ≡ false
+    → answers_at x at.component l ≡ true → is_held (status h l) ≡ false
 
 -- the relation
 abbrev pub IsSound : SubjectParts → ℕ → Set → State → Type 0

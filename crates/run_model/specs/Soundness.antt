@@ -3,8 +3,7 @@ use Rattle.std.specs.Prelude.{ℕ, ◌≡◌, ◌<◌, true, Some}
 use Rattle.app_model.specs.declared.component.Edge.{Edge}
 use Rattle.app_model.specs.Components.{edge_at, exits_at}
 use Rattle.app_model.specs.Masks.{in_mask}
-use Rattle.flow_model.specs.Policy.{AnswersFor}
-use Rattle.flow_model.specs.Subject.{SubjectParts}
+use Rattle.app_model.specs.Subject.{SubjectParts, answers_at}
 use Rattle.run_model.specs.Heaps.{Heap, lock_at}
 use Rattle.run_model.specs.Machine.{State, Idle, Running, AtEnd, Over}
 use Rattle.run_model.specs.Relation.{ExitsWell, NoEscape}
@@ -28,5 +27,5 @@ LeavesNoneHeld x l (Idle states h) = Unit {0}
 LeavesNoneHeld x l (Running at h frames) = Unit {0}
 LeavesNoneHeld x l (AtEnd at h) =
     (edge : Edge) → edge_at x.list at.component at.edge ≡ Some edge → in_mask (exits_at x.list at.component) edge.callback ≡ true
-    → AnswersFor x at.component l → ¬ HoldsLock h l
+    → answers_at x at.component l ≡ true → ¬ HoldsLock h l
 LeavesNoneHeld x l (Over why) = Unit {0}

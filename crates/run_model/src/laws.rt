@@ -1,10 +1,11 @@
 //! What the flow rules say of the runs of the machine.
-ghost use Rattle.std.specs.Prelude.{◌≡◌, ◌<◌, ◌↔◌, ℕ, List, length, true};
+ghost use Rattle.std.specs.Prelude.{◌≡◌, ◌<◌, ◌↔◌, ℕ, List, true};
 ghost use Rattle.flow_model.specs.Derived.{Set, IsClosed};
 ghost use Rattle.app_model.specs.Masks.{is_held};
 ghost use Rattle.flow_model.specs.Policy.{MeetsPolicy};
 ghost use Rattle.flow_model.specs.Rules.{Inner, Rules};
-ghost use Rattle.flow_model.specs.Subject.{SubjectParts, status_masks};
+ghost use Rattle.flow_model.specs.Subject.{status_masks};
+ghost use Rattle.app_model.specs.Subject.{SubjectParts, slot_count};
 ghost use Rattle.run_model.specs.Heaps.{Heap, status};
 ghost use Rattle.run_model.specs.Machine.{Callback, Frame, Idle, Running, options_of, run_of};
 ghost use Rattle.run_model.specs.Relation.{Each, IsHeap, IsIdle, IsInside};
@@ -13,8 +14,8 @@ ghost use Rattle.run_model.specs.Tagged.{IsTagged};
 
 /// Soundness: what a closed set of facts that meets the policy says of every run.
 pub fn soundness()
-    ensures runs { (x : SubjectParts) (l : ℕ) (set : Set) → IsTagged x → l < length x.app.locks → IsClosed (Rules x l) set → MeetsPolicy x l set → (choices : List ℕ) → StandsWell x l (run_of x choices) }
-    ensures counts { (x : SubjectParts) (l : ℕ) (set : Set) → IsTagged x → l < length x.app.locks → IsClosed (Rules x l) set → MeetsPolicy x l set → (choices : List ℕ) → LeavesNoneHeld x l (run_of x choices) }
+    ensures runs { (x : SubjectParts) (l : ℕ) (set : Set) → IsTagged x → l < slot_count x → IsClosed (Rules x l) set → MeetsPolicy x l set → (choices : List ℕ) → StandsWell x l (run_of x choices) }
+    ensures counts { (x : SubjectParts) (l : ℕ) (set : Set) → IsTagged x → l < slot_count x → IsClosed (Rules x l) set → MeetsPolicy x l set → (choices : List ℕ) → LeavesNoneHeld x l (run_of x choices) }
 {}
 
 /// The part of it that needs the rules inside callbacks alone: the start of a callback, and each step inside it.
