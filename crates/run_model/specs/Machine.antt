@@ -362,7 +362,7 @@ act_options x at h f rest (Some (Call by usage arguments given)) = call_options 
 -- ---- the start of a callback
 -- the values of an argument of a type, for each of its words
 abbrev pub argument_words : AppParts → List ℕ → List (List Value)
-argument_words app text = if is_reference text then free_references app ∷ [] else replicate (words_of text) free_numbers
+argument_words app text = replicate (words_of text) (if is_reference text then free_references app else free_numbers)
 
 abbrev pub parameter_words : AppParts → Option ProtoParts → List (List Value)
 parameter_words app None = []

@@ -8,11 +8,12 @@ use Rattle.app_model.specs.Words.{code_len, successor_at, handler_at}
 use Rattle.app_model.specs.Components.{edge_at, callback_at, creating}
 use Rattle.flow_model.specs.declared.act.Act.{Act}
 use Rattle.flow_model.specs.declared.act.Act.TheVariants.{ReturnVoid}
-use Rattle.flow_model.specs.Acts.{act_at}
+use Rattle.act_model.specs.Acts.{act_at}
 use Rattle.app_model.specs.Facts.{Fact, View, At, Ret, Exc}
 use Rattle.app_model.specs.Masks.{in_mask}
 use Rattle.flow_model.specs.Derived.{Set, HasAll, IsClosed}
-use Rattle.flow_model.specs.Subject.{SubjectParts, passes_by, status_masks}
+use Rattle.app_model.specs.Subject.{SubjectParts}
+use Rattle.flow_model.specs.Subject.{passes_by, status_masks}
 use Rattle.flow_model.specs.Rules.{Inside, I1, I1_return, I2, I3, I3_leaves, Starts, V3, Between, V1, V4, by_method, Rules, entered}
 use Rattle.straight_code.specs.Body.{IsPlainBody}
 use Rattle.straight_code.specs.Path.{row_before, on_path, path_subject}

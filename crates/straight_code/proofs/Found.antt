@@ -6,12 +6,13 @@ use Rattle.app_model.specs.declared.component.Edge.{Edge}
 use Rattle.app_model.specs.Parts.{AppParts}
 use Rattle.app_model.specs.Words.{successor_at}
 use Rattle.app_model.specs.Components.{edge_at, callback_at, exits_at, creating}
-use Rattle.flow_model.specs.Acts.{act_at}
+use Rattle.act_model.specs.Acts.{act_at}
 use Rattle.app_model.specs.Facts.{Fact, View, At, Ret}
 use Rattle.app_model.specs.Masks.{in_mask, any_below, is_held}
 use Rattle.flow_model.specs.Derived.{HasAll, Derived, all_done, by_rule}
 use Rattle.flow_model.specs.Policy.{acquires, none_given, AnswersFor, IsDerivableViolation}
-use Rattle.flow_model.specs.Subject.{SubjectParts, passes_by, own_operation}
+use Rattle.app_model.specs.Subject.{SubjectParts}
+use Rattle.flow_model.specs.Subject.{passes_by, own_operation}
 use Rattle.flow_model.specs.Rules.{I1, I1_return, I2, V3, V1, V4, Carries, by_method, Rules, entered}
 use Rattle.flow_model.proofs.Laws.{in_closed, one_more}
 use Rattle.straight_code.specs.Body.{IsPlainBody}

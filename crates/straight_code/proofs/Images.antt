@@ -5,10 +5,11 @@ use Rattle.std.proofs.lemmas.Bool.{cases_eq}
 use Rattle.app_model.specs.declared.tag.Tag.{Tag}
 use Rattle.app_model.specs.Parts.{AppParts}
 use Rattle.flow_model.specs.declared.act.Act.{Act}
-use Rattle.flow_model.specs.Acts.{act_at}
+use Rattle.act_model.specs.Acts.{act_at}
 use Rattle.app_model.specs.Masks.{in_mask}
 use Rattle.flow_model.specs.Images.{IsImage}
-use Rattle.flow_model.specs.Passes.{passes, only}
+use Rattle.flow_model.specs.Status.{only}
+use Rattle.flow_model.specs.Passes.{passes}
 use Rattle.flow_model.specs.Subject.{passes_by}
 use Rattle.flow_model.proofs.MaskLaws.{IsIn-lt, IsIn-bit, IsIn-from}
 use Rattle.flow_model.proofs.TestLaws.{both, and_join, bool_same, same_number, number_same, below_is, some_below, below_some}

@@ -6,12 +6,12 @@ use Rattle.app_model.specs.Parts.{AppParts}
 use Rattle.app_model.specs.Words.{code_len, named_at}
 use Rattle.flow_model.specs.declared.act.Act.{Act}
 use Rattle.flow_model.specs.declared.act.Act.TheVariants.{ReturnVoid}
-use Rattle.flow_model.specs.Acts.{act_at}
+use Rattle.act_model.specs.Acts.{act_at}
 use Rattle.app_model.specs.Masks.{in_mask, any_below, is_held}
 use Rattle.flow_model.specs.Images.{IsImage}
 use Rattle.flow_model.proofs.MaskLaws.{IsIn-zero, IsCut-and}
 use Rattle.flow_model.specs.Policy.{AreViolations, MeetsPolicy}
-use Rattle.flow_model.specs.Subject.{SubjectParts}
+use Rattle.app_model.specs.Subject.{SubjectParts}
 use Rattle.flow_model.specs.Scope.{is_escape, is_wrong_call, stores_new}
 use Rattle.flow_model.proofs.TestLaws.{some_below, below_some, in_mask_below}
 use Rattle.straight_code.specs.declared.path.Walk.{Walk}

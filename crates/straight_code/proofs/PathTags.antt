@@ -18,11 +18,12 @@ use Rattle.app_model.specs.declared.rows.Named.{Named}
 use Rattle.app_model.specs.declared.lock_use.LockUse.{LockUse}
 use Rattle.flow_model.specs.declared.act.Act.{Act}
 use Rattle.flow_model.specs.declared.act.Act.TheVariants.{ReturnVoid, WriteStatic, Other, TakeResult, WriteZero, WriteNonzero, ReadStatic}
-use Rattle.flow_model.specs.Acts.{act_at, act_of, act_by, lock_no, call_of, is_zero}
-use Rattle.flow_model.specs.Changes.{after}
-use Rattle.flow_model.specs.Entries.{site_at}
+use Rattle.act_model.specs.Acts.{act_at, act_of}
+use Rattle.flow_model.specs.Acts.{act_by, lock_no, call_of, is_zero}
+use Rattle.act_model.specs.Changes.{after}
+use Rattle.app_model.specs.Sites.{site_at}
 use Rattle.flow_model.specs.Scope.{is_escape, is_wrong_call}
-use Rattle.flow_model.specs.Subject.{SubjectParts}
+use Rattle.app_model.specs.Subject.{SubjectParts}
 use Rattle.act_model.specs.Tags.{itself}
 use Rattle.flow_model.proofs.TestLaws.{both, same_number, none_some}
 use Rattle.run_model.specs.Tagged.{IsTagged, IsEntered, IsUnder, leads_on}

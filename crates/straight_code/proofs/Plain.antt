@@ -13,7 +13,8 @@ use Rattle.app_model.specs.LockUse.{lock_use_at}
 use Rattle.app_model.specs.Words.{place_at, successor_of, handler_of, successor_at, handler_at, ins_at, ins_of, code_len, places_of, named_at}
 use Rattle.flow_model.specs.declared.act.Act.{Act}
 use Rattle.flow_model.specs.declared.act.Act.TheVariants.{ReturnVoid, Other, TakeResult, WriteZero, WriteNonzero, ReadStatic, WriteStatic}
-use Rattle.flow_model.specs.Acts.{act_at, act_of, act_by, call_of, lock_no, is_zero}
+use Rattle.act_model.specs.Acts.{act_at, act_of}
+use Rattle.flow_model.specs.Acts.{act_by, call_of, lock_no, is_zero}
 use Rattle.flow_model.specs.Policy.{acquires}
 use Rattle.std.proofs.lemmas.Bool.{cases_order}
 use Rattle.app_model.specs.declared.tag.Tag.{Tag}

@@ -4,9 +4,12 @@ use Rattle.app_model.specs.declared.tag.Tag.{Tag}
 use Rattle.app_model.specs.declared.tag.Tag.TheVariants.{Zero, Any}
 use Rattle.app_model.specs.Parts.{AppParts}
 use Rattle.flow_model.specs.declared.act.Act.{Act}
-use Rattle.flow_model.specs.Acts.{act_at}
-use Rattle.flow_model.specs.Changes.{IsSteadyFrom, after, is_steady, tag_in}
-use Rattle.flow_model.specs.Entries.{arguments_row, callback_row, site_at, makes_lock, one_if}
+use Rattle.act_model.specs.Acts.{act_at}
+use Rattle.act_model.specs.Changes.{tag_in, after}
+use Rattle.flow_model.specs.Changes.{IsSteadyFrom, is_steady}
+use Rattle.app_model.specs.Sites.{site_at}
+use Rattle.act_model.specs.Entries.{callback_row, arguments_row}
+use Rattle.flow_model.specs.Entries.{makes_lock, one_if}
 use Rattle.app_model.specs.Masks.{any_below}
 use Rattle.flow_model.specs.Policy.{acquires}
 use Rattle.flow_model.specs.Scope.{stores_new}

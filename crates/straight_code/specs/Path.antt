@@ -5,12 +5,14 @@ use Rattle.app_model.specs.declared.component.Kind.TheVariants.{Receiver}
 use Rattle.app_model.specs.Parts.{AppParts}
 use Rattle.app_model.specs.Components.{ComponentParts}
 use Rattle.flow_model.specs.declared.act.Act.{Act}
-use Rattle.flow_model.specs.Acts.{act_at}
-use Rattle.flow_model.specs.Changes.{after}
-use Rattle.flow_model.specs.Entries.{entry_row, site_at}
+use Rattle.act_model.specs.Acts.{act_at}
+use Rattle.act_model.specs.Changes.{after}
+use Rattle.app_model.specs.Sites.{site_at}
+use Rattle.act_model.specs.Entries.{entry_row}
 use Rattle.app_model.specs.Masks.{in_mask, any_below}
 use Rattle.flow_model.specs.Policy.{acquires}
-use Rattle.flow_model.specs.Subject.{SubjectParts, passes_by}
+use Rattle.app_model.specs.Subject.{SubjectParts}
+use Rattle.flow_model.specs.Subject.{passes_by}
 
 abbrev pub row_after : ℕ → Option Act → List Tag → List Tag
 row_after site None row = row

@@ -8,7 +8,7 @@ use Rattle.app_model.specs.Names.{type_text}
 use Rattle.app_model.specs.Subtypes.{IsSubtype}
 use Rattle.flow_model.specs.declared.act.Act.{Act}
 use Rattle.flow_model.specs.declared.act.Act.TheVariants.{Call}
-use Rattle.flow_model.specs.Acts.{act_at}
+use Rattle.act_model.specs.Acts.{act_at}
 use Rattle.flow_model.specs.Scope.{is_escape, is_wrong_call, stores_new}
 use Rattle.straight_code.specs.Path.{row_before}
 

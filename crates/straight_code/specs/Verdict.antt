@@ -7,7 +7,7 @@ use Rattle.app_model.specs.Names.{type_text}
 use Rattle.app_model.specs.Masks.{in_mask, is_held}
 use Rattle.flow_model.specs.Derived.{Set, HasAll, IsClosed}
 use Rattle.flow_model.specs.Rules.{Rules}
-use Rattle.flow_model.specs.Subject.{SubjectParts}
+use Rattle.app_model.specs.Subject.{SubjectParts}
 use Rattle.flow_model.specs.Policy.{IsViolation, IsDerivableViolation, AreViolations}
 use Rattle.run_model.specs.Machine.{run_of}
 use Rattle.run_model.specs.Soundness.{StandsWell, LeavesNoneHeld}

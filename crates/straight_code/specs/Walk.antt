@@ -4,7 +4,7 @@ use Rattle.app_model.specs.declared.tag.Tag.{Tag}
 use Rattle.app_model.specs.Parts.{AppParts}
 use Rattle.flow_model.specs.declared.act.Act.{Act}
 use Rattle.flow_model.specs.Changes.{IsSteadyFrom}
-use Rattle.flow_model.specs.Entries.{site_at}
+use Rattle.app_model.specs.Sites.{site_at}
 use Rattle.app_model.specs.Masks.{in_mask, any_below}
 use Rattle.flow_model.specs.Passes.{passes}
 use Rattle.straight_code.specs.declared.path.Walk.{Walk}

@@ -2,9 +2,11 @@
 ghost use Rattle.std.specs.Prelude.{◌≡◌, ◌≢◌, ◌↔◌, ◌<◌, ◌+◌, ◌++◌, ◌≤◌, ◌&&◌, ℕ, length, replicate, true, false, Some, IsTrue, IfOk, slice_index};
 ghost use Rattle.app_model.specs.Parts.{AppParts};
 ghost use Rattle.app_model.specs.Words.{code_len};
-ghost use Rattle.flow_model.specs.Acts.{act_at};
-ghost use Rattle.flow_model.specs.Changes.{after, top_after, IsSteadyFrom};
-ghost use Rattle.flow_model.specs.Entries.{callback_row, arguments_row, makes_lock, one_if};
+ghost use Rattle.act_model.specs.Acts.{act_at};
+ghost use Rattle.act_model.specs.Changes.{after};
+ghost use Rattle.flow_model.specs.Changes.{top_after, IsSteadyFrom};
+ghost use Rattle.act_model.specs.Entries.{callback_row, arguments_row};
+ghost use Rattle.flow_model.specs.Entries.{makes_lock, one_if};
 ghost use Rattle.app_model.specs.Masks.{any_below};
 ghost use Rattle.flow_model.specs.Scope as scope;
 ghost use Rattle.straight_code.specs.Path.{row_before};
