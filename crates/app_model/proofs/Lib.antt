@@ -2,3 +2,4 @@ pub mod Descriptors
 pub mod HierarchyLaws
 pub mod Samples
 pub mod Searches
+pub mod TypeIndex

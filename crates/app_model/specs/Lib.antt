@@ -5,6 +5,7 @@ pub mod Words
 pub mod Names
 pub mod LockUse
 pub mod Hierarchy
+pub mod Index
 pub mod Slots
 pub mod Subtypes
 pub mod Components

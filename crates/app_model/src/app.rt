@@ -1,37 +1,43 @@
 //! A linked application.
-ghost use Rattle.std.specs.Prelude.{◌≡◌, ◌<◌, length, slice_get, Some};
+ghost use Rattle.std.specs.Prelude.{◌≡◌, ◌<◌, IfOk, length, slice_get, Some};
 ghost use Rattle.app_model.specs.Sound.{IsSoundApp};
 ghost use Rattle.app_model.specs.Words.{places_of, place_at, operand_at, code_len, ins_at, pc_at, successor_at, handler_at, leaves_at, named_at};
 
+use crate::hierarchy::index_types;
 use crate::rows::{AppRows, ClassRow, FieldRow, MethodRow, Named, Operand, ProtoRow};
 use dalvik::{Body, Ins, Place};
 use ns_base::{ClassNo, FieldNo, MethodNo, NameNo, ProtoNo, TypeNo};
+use std::alloc::{AllocError, Global};
 use std::marker::Model;
 
 /// All that the layers above read of the files: rows by number, and each method's code.
+/// `index` has the class of each type.
 #[derive(Drop)]
 pub struct App {
     pub(crate) rows: AppRows,
+    pub(crate) index: Vec<Option<ClassNo>>,
 }
 
 impl Model for App {
     ghost use Rattle.app_model.specs.Parts.{AppParts};
+    ghost use Rattle.std.specs.Prelude.{length};
+    ghost use Rattle.app_model.specs.Index.{IsIndex};
     ghost use Rattle.app_model.specs.Sound.{IsSoundApp};
 
     ghost Value = { AppParts };
 
     ghost view = { λ a. a.rows };
 
-    ghost invariant = { λ a. IsSoundApp a.rows };
+    ghost invariant = { λ a. IsSoundApp a.rows × IsIndex (length a.rows.types) a.rows.classes a.index.items };
 }
 
 impl App {
-    /// Takes no memory.
-    pub fn new(rows: AppRows) -> App
+    pub fn new(alloc: Global, rows: AppRows) -> Result<App, AllocError>
         requires { IsSoundApp rows }
-        ensures { result ≡ rows }
+        ensures { IfOk result (λ app. app ≡ rows) }
     {
-        App { rows }
+        let index = index_types(alloc, rows.types.len(), &rows.classes)?;
+        Ok(App { rows, index })
     }
 
     /// What holds of each application.

@@ -4,12 +4,14 @@
 //! - `names` spells types, names and prototypes.
 //! - `lock_use` and `slots` tell calls and fields of wake locks apart from others.
 //! - `component` has the components and their lifecycles.
+//! - `hierarchy` has the classes of types, and those above them.
 //! - `laws` has what holds of every application.
 //! - `tag` is what is known of a register's value.
 #![tactic(auto)]
 
 mod app;
 mod component;
+mod hierarchy;
 mod laws;
 mod lock_use;
 mod names;
