@@ -1,16 +1,10 @@
 -- Searches that go element by element, and up the superclasses.
-use Rattle.std.proofs.Common.{◌≡◌, ◌≢◌, ◌⊎◌, ℕ, zero, suc, ◌+◌, ◌-◌, ◌<◌, ◌≤◌, true, false, Bool, List, [], ◌∷◌, length, drop, get_or, refl,  arith, Option, Some, None, slice_get, position, ◌∙◌, ap}
-use Rattle.std.proofs.lemmas.Bool.{cases_eq, eqb-false}
+use Rattle.std.proofs.Common.{◌≡◌, ℕ, suc, ◌+◌, ◌-◌, ◌<◌, true, false, Bool, List, [], ◌∷◌, length, get_or, refl, arith, Option, Some, None, slice_get, position, ◌∙◌, ap}
 use Rattle.std.proofs.lemmas.Grind.{common_steps}
-use Rattle.std.proofs.lemmas.Iterator.Adapters.{position_from-zero}
 use Rattle.std.proofs.lemmas.List.Sums.{position_or_len_is}
-use Rattle.std.proofs.lemmas.Option.{slice_get_within, get_or_from_slice_get}
-use Rattle.std.specs.List.{position_from, All}
-use Rattle.ns_base.specs.declared.rows.ClassNo.{ClassNo}
 use Rattle.ns_base.specs.declared.rows.FieldNo.{FieldNo}
-use Rattle.app_model.specs.Hierarchy.{class_of_type, is_named_field, line, lock_in, nearest, or_else, superclass_at}
+use Rattle.app_model.specs.Hierarchy.{is_named_field, line, lock_in, nearest, or_else, superclass_at}
 use Rattle.app_model.specs.Parts.{AppParts, ClassParts}
-use Rattle.app_model.specs.Sound.{IsClassRow, IsSoundApp}
 
 -- the first that passes
 position_here : {X : Type 0} (p : X → Bool) (xs : List X) (i : ℕ) (d : X) → i < length xs → ((k : ℕ) → k < i → p (get_or xs k d) ≡ false)
@@ -27,13 +21,6 @@ position_none p (x ∷ xs) none =
     grind (arith, common_steps, at)
 
 -- a class, or the classes above it
-pub nearest-none : (found : ℕ → Option ℕ) (classes : List ClassParts) (n i : ℕ) → nearest found (line classes (n - i) None) ≡ None
-nearest-none found classes n i = at (n - i)
-  where
-    at : (n : ℕ) → nearest found (line classes n None) ≡ None
-    at zero = refl
-    at (suc n) = refl
-
 pub nearest-step : (found : ℕ → Option ℕ) (classes : List ClassParts) (n i c : ℕ) → i < n
     → nearest found (line classes (n - i) (Some c)) ≡ or_else (found c) (nearest found (line classes (n - (i + 1)) (superclass_at classes c)))
 nearest-step found classes n i c below = let e : n - i ≡ suc (n - (i + 1)) = omega arith in rw e refl

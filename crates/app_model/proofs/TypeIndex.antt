@@ -1,17 +1,14 @@
 -- The index from types to classes, filled from the last class to the first.
-use Rattle.std.proofs.Common.{◌≡◌, ◌≢◌, ◌⊎◌, ℕ, suc, ◌+◌, ◌<◌, ◌≤◌, true, false, Bool, List, [], ◌∷◌, length, drop, get_or, replicate, set, refl, sym, drop-cons, add-one, arith, Option, Some, None, cond, slice_get, option_map, eqb, eq-eqb, ⊎_elim, ◌∙◌, ap, subst}
-use Rattle.std.proofs.Math.Seq.{drop-length}
-use Rattle.std.proofs.lemmas.Bool.{cases_eq}
+use Rattle.std.proofs.Common.{◌≡◌, ◌≢◌, ℕ, ◌<◌, ◌≤◌, false, List, length, drop, get_or, sym, arith, Option, None, option_map, eqb, ⊎_elim, ◌∙◌, ap, subst}
 use Rattle.std.proofs.lemmas.Bool.Decides.{eqb_tells}
 use Rattle.std.proofs.lemmas.Iterator.Adapters.{position_from-zero}
-use Rattle.std.proofs.lemmas.List.{get_or-replicate, get_or-set_same, get_or-set_other, length-replicate, length-set}
-use Rattle.std.proofs.lemmas.Option.{slice_get-get_or, slice_get_within, get_or_from_slice_get}
+use Rattle.std.proofs.lemmas.Option.{slice_get_within, get_or_from_slice_get}
 use Rattle.std.specs.List.{position_from}
 use Rattle.ns_base.specs.declared.rows.ClassNo.{ClassNo}
 use Rattle.app_model.specs.Hierarchy.{class_of_type}
 use Rattle.app_model.specs.Parts.{AppParts, ClassParts}
 use Rattle.app_model.specs.Index.{IsIndex}
-use Rattle.app_model.specs.Sound.{IsClassRow, IsSoundApp}
+use Rattle.app_model.specs.Sound.{IsSoundApp}
 use Rattle.app_model.proofs.Searches.{position_none}
 
 not_equal : (a b : ℕ) → a ≢ b → eqb a b ≡ false
@@ -34,12 +31,6 @@ pub record IsFilled (types : ℕ) (classes : List ClassParts) (c : ℕ) (index :
   pub len : length index ≡ types
   pub each : (t : ℕ) → t < types → option_map (λ (c : ClassNo). c.0) (get_or index t None) ≡ class_from c classes t
 
-pub none_filled : (types : ℕ) (classes : List ClassParts) → IsFilled types classes (length classes) (replicate types None)
-none_filled types classes = record {
-  len = length-replicate types None;
-  each = λ t below. rw (get_or-replicate {A = Option ClassNo} types t None None below, drop-length classes) refl;
-}
-
 pub all_filled : (types : ℕ) (classes : List ClassParts) (c : ℕ) (index : List (Option ClassNo)) → c ≤ 0 → IsFilled types classes c index → IsIndex types classes index
 unfolding class_of_type
 all_filled types classes c index none filled = let first : 0 ≡ c = omega arith in record {
@@ -49,18 +40,4 @@ all_filled types classes c index none filled = let first : 0 ≡ c = omega arith
       let here : option_map (λ (c : ClassNo). c.0) (get_or index t None) ≡ class_from 0 classes t =
       subst (λ n. option_map (λ (c : ClassNo). c.0) (get_or index t None) ≡ class_from n classes t) (sym first) (filled.each t (omega (arith, below, filled.len))) in
       ap (option_map (λ (c : ClassNo). c.0)) (sym (get_or_from_slice_get index t found None is)) ∙ here ∙ sym (position_from-zero (λ (class : ClassParts). eqb class.name.0 t) classes);
-}
-
--- one class more
-pub more_filled : (types : ℕ) (classes : List ClassParts) (c : ℕ) (class : ClassParts) (index : List (Option ClassNo)) → c < length classes
-    → class ≡ get_or classes c class → class.name.0 < types → IsFilled types classes (suc c) index
-    → IsFilled types classes c (set index class.name.0 (Some (record { 0 = c })))
-more_filled types classes c class index below is inside filled = record {
-  len = length-set index class.name.0 _ ∙ filled.len;
-  each = λ t lt.
-      let step : class_from c classes t ≡ cond (eqb class.name.0 t) (Some c) (class_from (suc c) classes t) = rw (drop-cons classes c class, ← is, add-one) refl in
-      ⊎_elim
-      (λ yes. let at : t ≡ class.name.0 = sym yes.1 in rw (step, yes.0, at, get_or-set_same index class.name.0 (Some (record { 0 = c })) None (omega (arith, inside, filled.len))) refl)
-      (λ no. rw (step, no.0, get_or-set_other index class.name.0 t (Some (record { 0 = c })) None (λ same. no.1 (sym same))) (filled.each t lt))
-      (eqb_tells class.name.0 t);
 }
