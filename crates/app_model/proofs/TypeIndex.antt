@@ -1,7 +1,8 @@
 -- The index from types to classes, filled from the last class to the first.
-use Rattle.std.proofs.Common.{◌≡◌, ◌≢◌, ℕ, ◌<◌, ◌≤◌, false, List, length, drop, get_or, sym, arith, Option, None, option_map, eqb, ⊎_elim, ◌∙◌, ap, subst}
+use Rattle.std.proofs.Common.{◌≡◌, ◌≢◌, ℕ, ◌<◌, ◌≤◌, false, List, length, drop, get_or, sym, arith, [], Option, Some, None, IfSome, option_map, eqb, ⊎_elim, ◌∙◌, ap, subst}
 use Rattle.std.proofs.lemmas.Bool.Decides.{eqb_tells}
 use Rattle.std.proofs.lemmas.Iterator.Adapters.{position_from-zero}
+use Rattle.std.proofs.lemmas.List.Quantifiers.{position-Some}
 use Rattle.std.proofs.lemmas.Option.{slice_get_within, get_or_from_slice_get}
 use Rattle.std.specs.List.{position_from}
 use Rattle.ns_base.specs.declared.rows.ClassNo.{ClassNo}
@@ -21,6 +22,13 @@ no_class app t sound past =
     position_none (λ (class : ClassParts). eqb class.name.0 t) app.classes (λ (k : ℕ) (d : ClassParts) (below : k < length app.classes).
     let inside = (sound.ranges.classes k d below).name in
     not_equal (get_or app.classes k d).name.0 t (λ (same : (get_or app.classes k d).name.0 ≡ t). omega (arith, inside, past, same)))
+
+-- the class of a type is there
+pub class_within : (classes : List ClassParts) (t : ℕ) (found : Option ClassNo) → option_map (λ (c : ClassNo). c.0) found ≡ class_of_type classes t
+    → IfSome found (λ c. c.0 < length classes)
+unfolding class_of_type
+class_within classes t None is = tt
+class_within classes t (Some c) is = (position-Some (λ (class : ClassParts). eqb class.name.0 t) classes c.0 (record { name = record { 0 = 0 }; parent = None; interfaces = []; flags = 0 }) (sym is)).0
 
 -- the class of a type among those from class c on
 abbrev pub class_from : ℕ → List ClassParts → ℕ → Option ℕ

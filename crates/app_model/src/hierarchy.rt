@@ -1,5 +1,5 @@
 //! Classes by their types, and the classes above them.
-ghost use Rattle.std.specs.Prelude.{◌≡◌, ◌<◌, ◌^◌, IfOk, None, length, option_map, replicate};
+ghost use Rattle.std.specs.Prelude.{◌≡◌, ◌<◌, ◌^◌, IfOk, IfSome, None, length, option_map, replicate};
 ghost use Rattle.std.specs.List.{All};
 ghost use Rattle.ns_base.specs.declared.rows.ClassNo.{ClassNo};
 ghost use Rattle.app_model.specs.Hierarchy.{class_of_type, superclass_at};
@@ -43,7 +43,8 @@ pub(crate) fn index_types(
 impl App {
     /// The class of a type, if it is one of the application's.
     pub fn class_of_type(&self, kind: TypeNo) -> Option<ClassNo>
-        ensures { option_map (λ (c : ClassNo). c.0) result ≡ class_of_type self.now.classes kind.0 }
+        ensures is { option_map (λ (c : ClassNo). c.0) result ≡ class_of_type self.now.classes kind.0 }
+        ensures within { IfSome result (λ c. c.0 < length self.now.classes) }
     {
         if kind.0 < self.type_count() {
             self.index[kind.0 as usize]
@@ -55,7 +56,8 @@ impl App {
     /// The superclass of a class, if it is one of the application's.
     #[tactic(auto, unfolding(crate::specs::Hierarchy::superclass_at))]
     pub fn superclass(&self, class: ClassNo) -> Option<ClassNo>
-        ensures { option_map (λ (c : ClassNo). c.0) result ≡ superclass_at self.now.classes class.0 }
+        ensures is { option_map (λ (c : ClassNo). c.0) result ≡ superclass_at self.now.classes class.0 }
+        ensures within { IfSome result (λ c. c.0 < length self.now.classes) }
     {
         if class.0 >= self.class_count() {
             return None;
