@@ -1,6 +1,6 @@
 pub mod Descriptors
+pub mod Examples
 pub mod HierarchyLaws
 pub mod Invokes
-pub mod Samples
 pub mod Searches
 pub mod TypeIndex

@@ -26,6 +26,3 @@ pub use lock_use::LockUse;
 pub use names::{POWER_MANAGER, STRING, WAKE_LOCK};
 pub use rows::{AppRows, ClassRow, FieldRow, MethodRow, Named, NamedField, Operand, ProtoRow};
 pub use tag::Tag;
-
-#[cfg(test)]
-mod tests;

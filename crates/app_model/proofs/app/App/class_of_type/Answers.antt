@@ -17,6 +17,6 @@ returns-then-kind-type_count-clause-within c =
 pub returns-else-kind-type_count : goal.returns-else-kind-type_count
 returns-else-kind-type_count c = record {
   is = no_class c.args.self.now c.args.kind.0 (subst IsSoundApp c.self.view_is c.self.invariant.0)
-  (omega (arith, c.type_count.ensures, c.if-kind-type_count.false));
+      (omega (arith, c.type_count.ensures, c.if-kind-type_count.false));
   within = tt;
 }
