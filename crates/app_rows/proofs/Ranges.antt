@@ -21,7 +21,7 @@ use Rattle.dalvik.specs.declared.naming.Naming.{Naming}
 use Rattle.dalvik.specs.declared.naming.Naming.TheVariants as naming
 use Rattle.dalvik.specs.Naming.{naming_of}
 use Rattle.app_model.specs.Parts.{AppParts}
-use Rattle.app_model.specs.Sound.{IsType, IsName, IsProto, IsProtoRow, IsClassRow, IsMethodRow, IsFieldRow, IsOperand, kind_of, AreInRange}
+use Rattle.app_model.specs.Sound.{IsType, IsName, IsProto, IsProtoRow, IsClassRow, IsMethodRow, IsFieldRow, IsOperand, AreInRange}
 use Rattle.app_model.specs.Words.{no_body, places_of, place_at, ins_at, ins_of}
 use Rattle.dex_file.specs.declared.parts.FileCode.{FileCode}
 use Rattle.dex_file.specs.declared.parts.FileField.{FileField}
@@ -106,7 +106,7 @@ record IsFieldBelow (app : AppParts) (n : ℕ) (field : FieldRow) : Type 0 where
 
 -- the type that an instruction names is in the table
 record HasKind (app : AppParts) (own : Ins) : Type 0 where
-  in_table : (t : ℕ) → kind_of own ≡ Some t → t < length app.types
+  in_table : (t : ℕ) → naming_of own ≡ naming.Kind t → t < length app.types
 
 abbrev HasKinds : AppParts → BodyRows → Type 0
 HasKinds app body = All (λ (place : Place). HasKind app place.ins) body.places
@@ -165,10 +165,10 @@ module _ (seen : Seen) (all : Members) (file : FileContent) (has : HasRowsOf see
 
 -- what a file adds is in range
 module _ (app : AppParts) (file : FileContent) (rows : Rows) (within : AreRowsIn app file rows) where
-  kind_there : (kind t : ℕ) → kind < length file.types → Some (slice_index rows.types kind) ≡ Some t → t < length app.types
+  kind_there : (kind t : ℕ) → kind < length file.types → naming.Kind (slice_index rows.types kind) ≡ naming.Kind t → t < length app.types
   kind_there kind t there is = let same : slice_index rows.types kind ≡ t = cc in subst (λ n. n < length app.types) same (within.types kind there)
 
-  kind_in : (own : Ins) → IsSoundIns file own → (t : ℕ) → kind_of (linked_ins rows own) ≡ Some t → t < length app.types
+  kind_in : (own : Ins) → IsSoundIns file own → (t : ℕ) → naming_of (linked_ins rows own) ≡ naming.Kind t → t < length app.types
   unfolding linked_ins
   kind_in (ins.ConstClass to kind) there t is = kind_there kind t there.named is
   kind_in (ins.CheckCast object kind) there t is = kind_there kind t there.named is
@@ -329,16 +329,16 @@ protos_ranged files all fit =
 
 -- the instruction that is read
 ins_kind : (app : AppParts) (places : List Place) (i : ℕ) (found : Option Place) → slice_get places i ≡ found
-    → All (λ (place : Place). HasKind app place.ins) places → (own : Ins) (t : ℕ) → ins_of found ≡ Some own → kind_of own ≡ Some t → t < length app.types
+    → All (λ (place : Place). HasKind app place.ins) places → (own : Ins) (t : ℕ) → ins_of found ≡ Some own → naming_of own ≡ naming.Kind t → t < length app.types
 ins_kind app places i None at each own t is kind = absurd (let no : ⊥ = cc in no)
 ins_kind app places i (Some place) at each own t is kind =
     let same : place.ins ≡ own = cc in
     let of : HasKind app place.ins =
     subst (λ (p : Place). HasKind app p.ins) (get_or_from_slice_get places i place place at) (each i place (slice_get_within places i place at)) in
-    of.in_table t (ap kind_of same ∙ kind)
+    of.in_table t (ap naming_of same ∙ kind)
 
 kinds_ranged : (app : AppParts) → All (HasKinds app) app.code
-    → (m i : ℕ) (own : Ins) (t : ℕ) → ins_at app m i ≡ Some own → kind_of own ≡ Some t → t < length app.types
+    → (m i : ℕ) (own : Ins) (t : ℕ) → ins_at app m i ≡ Some own → naming_of own ≡ naming.Kind t → t < length app.types
 unfolding places_of place_at
 kinds_ranged app each m i own t is kind =
     let body = get_or app.code m no_body in
