@@ -1,9 +1,8 @@
 -- With which statuses of lock field l an instruction goes on, and with which it throws, by the tags before it and the
 -- status before it. Statuses are masks; l is the lock under solution.
-use Rattle.std.specs.Prelude.{ℕ, ◌+◌, ◌==◌, Bool, true, false, if◌then◌else◌, List, [], ◌∷◌, slice_index, bit_or}
+use Rattle.std.specs.Prelude.{ℕ, ◌==◌, Bool, true, false, if◌then◌else◌, List, bit_or}
 use Rattle.ns_base.specs.declared.rows.LockNo.{LockNo}
 use Rattle.dalvik.specs.Calls.{receiver_of, argument_of}
-use Rattle.dalvik.specs.declared.ins.Args.{Args}
 use Rattle.app_model.specs.Masks.{in_mask}
 use Rattle.app_model.specs.declared.tag.Tag.{Tag}
 use Rattle.app_model.specs.declared.tag.Tag.TheVariants.{Bot, Zero, Solid, Held, Any, Field, New, Mixed}

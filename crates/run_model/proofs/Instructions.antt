@@ -1,8 +1,8 @@
 -- Each instruction keeps the relation.
 use Rattle.std.proofs.Common.{◌≡◌, ℕ, zero, suc, pred, ◌+◌, ◌<◌, Bool, true, false, if◌then◌else◌, List, [], ◌∷◌, length, map, get_or, set, slice_get, Option, Some, None, refl, sym, ap, ◌∙◌, inl, arith, subst, subst₂}
 use Rattle.std.specs.Prelude.{◌==◌, not}
-use Rattle.std.proofs.lemmas.Bool.{eqb-true, eqb-false, ne_eqb, false≢true}
-use Rattle.std.proofs.Math.Dec.{eqb_refl}
+use Rattle.std.proofs.lemmas.Bool.{eq-eqb, eqb-true, eqb-false, ne_eqb, false≢true}
+
 use Rattle.std.proofs.lemmas.List.{length-set}
 use Rattle.std.proofs.lemmas.Option.{get_or_from_slice_get}
 use Rattle.ns_base.specs.declared.rows.LockNo.{LockNo}
@@ -65,7 +65,7 @@ not_zero passed image r s some mask = by (passed == 0) refl
 
 -- the branch of a test is the one of its zero branch exactly where the value is zero
 branch_is : (if_zero : ℕ) (b : Bool) → (branch if_zero b == if_zero) ≡ b
-branch_is if_zero true = eqb_refl if_zero
+branch_is if_zero true = eq-eqb if_zero if_zero refl
 branch_is if_zero false = other (if_zero == 0) refl
   where
     other : (b : Bool) → (if_zero == 0) ≡ b → ((if b then 1 else 0) == if_zero) ≡ false
