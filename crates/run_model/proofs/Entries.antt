@@ -22,7 +22,7 @@ use Rattle.act_model.specs.Entries.{callback_row, callback_words, entry_row, fit
 use Rattle.run_model.specs.Heaps.{Value, Zero, Object, Heap, is_lock}
 use Rattle.run_model.specs.Machine.{free_numbers, free_references, free_objects, answers_of, argument_words, parameter_words, chosen, this_of, entries_of, written_values}
 use Rattle.run_model.specs.Relation.{AreTagged, Each, IsSolid, Means}
-use Rattle.run_model.proofs.Members.{each_append, each_map, each_flat_map, each_all, each_if}
+use Rattle.run_model.proofs.Members.{each_append, each_map, each_flat_map, each_all}
 
 abbrev pub NoLock : Value → Type 0
 NoLock v = is_lock v ≡ false

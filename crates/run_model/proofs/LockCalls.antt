@@ -19,7 +19,7 @@ use Rattle.flow_model.specs.Derived.{Set}
 use Rattle.app_model.specs.Sites.{site_at}
 use Rattle.app_model.specs.Masks.{in_mask}
 use Rattle.flow_model.specs.Passes.{passes, lock_call_passes, lock_call_throws, nullness}
-use Rattle.flow_model.specs.Status.{acquire_passes, release_passes, release_throws, is_held_passes, mode_passes, only}
+use Rattle.flow_model.specs.Status.{acquire_passes, release_passes, release_throws, is_held_passes, mode_passes}
 use Rattle.app_model.specs.Subject.{SubjectParts, slot_count}
 use Rattle.run_model.specs.Heaps.{Value, Zero, Heap, Lock, cell, held_value, is_lost, is_null, lock_at, status, status_of, with_count}
 use Rattle.run_model.specs.Machine.{Frame, register, result_index, answers, release_options, mode_options, operation_options}
