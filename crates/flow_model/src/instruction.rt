@@ -77,7 +77,14 @@ pub fn pass(
 {
     let act = act_of(&subject.app, method, index);
     let outside = subject.graph.outside(method, index);
-    pass_mask(lock, &act, &tags_at(subject, method, index), outside, to, status)
+    pass_mask(
+        lock,
+        &act,
+        &tags_at(subject, method, index),
+        outside,
+        to,
+        status,
+    )
 }
 
 /// The statuses, as a mask, with which an instruction itself throws from a status.
@@ -89,7 +96,13 @@ pub fn throws(subject: &Subject, lock: LockNo, method: MethodNo, index: u32, sta
 {
     let act = act_of(&subject.app, method, index);
     let outside = subject.graph.outside(method, index);
-    throw_mask(lock, &act, &tags_at(subject, method, index), outside, status)
+    throw_mask(
+        lock,
+        &act,
+        &tags_at(subject, method, index),
+        outside,
+        status,
+    )
 }
 
 /// Whether the receiver of a call lets it pass at a status, so that its callees are entered.

@@ -40,13 +40,20 @@ pub fn pass_mask<R: Row>(lock: LockNo, act: &Act, row: &R, outside: bool, to: u3
         | Act::ReadSlot { throws, .. }
         | Act::Give { throws, .. }
         | Act::Check { throws } => passes_by(lock, throws, row, status),
-        Act::WriteSlot {
-            from,
-            slot,
+        Act::WriteSlot { from, slot, throws } => write_passes(
+            lock,
             throws,
-        } => write_passes(lock, throws, row, (from, slot), status),
+            row,
+            (from, slot),
+            status,
+        ),
         Act::Throw { .. } | Act::Return { .. } => 0,
-        Act::Call { by, usage, args, .. } => {
+        Act::Call {
+            by,
+            usage,
+            args,
+            ..
+        } => {
             let receiver = receiver_of(lock, (usage, by), row, &args);
             call_passes(usage, outside, receiver, argument_tag(row, &args), status)
         }
@@ -65,7 +72,12 @@ pub fn throw_mask<R: Row>(lock: LockNo, act: &Act, row: &R, outside: bool, statu
         | Act::Give { throws, .. }
         | Act::Check { throws } => throws_by(lock, throws, row, status),
         Act::Throw { .. } => only(status),
-        Act::Call { by, usage, args, .. } => {
+        Act::Call {
+            by,
+            usage,
+            args,
+            ..
+        } => {
             let receiver = receiver_of(lock, (usage, by), row, &args);
             call_throws(usage, outside, receiver, argument_tag(row, &args), status)
         }
@@ -84,7 +96,12 @@ pub fn is_open<R: Row>(lock: LockNo, act: &Act, row: &R, status: u8) -> bool
     ensures { result ≡ spec.is_open_act lock.0 act.now (R.tags row.now) status }
 {
     match *act {
-        Act::Call { by, usage, args, .. } => {
+        Act::Call {
+            by,
+            usage,
+            args,
+            ..
+        } => {
             let receiver = receiver_of(lock, (usage, by), row, &args);
             has_status(passes_null(receiver, status), status as usize)
         }
@@ -344,11 +361,7 @@ fn passes_outside(outside: bool, receiver: Nullness, s: u8) -> u8
     requires { s < 8 }
     ensures { result ≡ spec.passes_outside outside receiver s }
 {
-    if outside {
-        passes_null(receiver, s)
-    } else {
-        0
-    }
+    if outside { passes_null(receiver, s) } else { 0 }
 }
 
 fn throws_outside(outside: bool, receiver: Nullness, s: u8) -> u8
@@ -420,11 +433,7 @@ fn only_if(there: bool, s: u8) -> u8
     requires { s < 8 }
     ensures { result ≡ spec.only_if there s }
 {
-    if there {
-        only(s)
-    } else {
-        0
-    }
+    if there { only(s) } else { 0 }
 }
 
 // The mask of one status, where another mask has it.

@@ -210,7 +210,7 @@ module _ (x : SubjectParts) (own : ℕ) (set_of : Set) (p : Premises x own set_o
         let q = receiver_tag x own set_of p f arguments in
         let a = argument_tag x own set_of p f arguments in
         let mask = zero_throws own t.lo (length h.locks) h usage q a (receiver_means Zero e)
-            (λ mode. (let a = has mode in (a.0, tagged_read row f.registers t.lo (length h.locks) h t.registers (argument_of arguments) a.0 a.1))) in
+        (λ mode. (let a = has mode in (a.0, tagged_read row f.registers t.lo (length h.locks) h t.registers (argument_of arguments) a.0 a.1))) in
         throws_ok x own set_of p h ok f rest (Call by usage arguments given) t is
         (rw (there, out) mask)
         (thrown_ok x own set_of p h f rest by usage arguments given t)

@@ -2,7 +2,6 @@
 use Rattle.std.proofs.Common.{◌≡◌, ℕ, pred, ◌+◌, ◌<◌, Bool, true, false, if◌then◌else◌, List, [], ◌∷◌, length, map, get_or, set, slice_get, Option, Some, None, refl, sym, ap, ◌∙◌, inl, arith, subst, subst₂}
 use Rattle.std.specs.Prelude.{◌==◌, not}
 use Rattle.std.proofs.lemmas.Bool.{eq-eqb, eqb-true, eqb-false, ne_eqb, false≢true}
-
 use Rattle.std.proofs.lemmas.List.{length-set}
 use Rattle.std.proofs.lemmas.Option.{get_or_from_slice_get}
 use Rattle.ns_base.specs.declared.rows.LockNo.{LockNo}
@@ -154,9 +153,11 @@ module _ (x : SubjectParts) (own : ℕ) (set_of : Set) (p : Premises x own set_o
     copy_ok to from wide is None o' there next = (tt, tt)
     copy_ok to from false is (Some v) o' there next = (write_ok (Copy to from false) to (tag_in row from) v is (only_status h own) (λ a. a) (register_means from v there), tt)
     copy_ok to from true is (Some v) None there next = (tt, tt)
-    copy_ok to from true is (Some v) (Some w) there next =
-        (quiet_ok x own set_of p h ok f rest (put true f.registers to v w) (Copy to from true) 0 t is (only_status h own)
-        (tagged_put row f.registers t.lo (length h.locks) h t.registers true to (tag_in row from) (tag_in row (from + 1)) v w (register_means from v there) (register_means (from + 1) w next)), tt)
+    copy_ok to from true is (Some v) (Some w) there next = (
+      quiet_ok x own set_of p h ok f rest (put true f.registers to v w) (Copy to from true) 0 t is (only_status h own)
+          (tagged_put row f.registers t.lo (length h.locks) h t.registers true to (tag_in row from) (tag_in row (from + 1)) v w (register_means from v there) (register_means (from + 1) w next)),
+      tt,
+    )
 
     -- what is written, to a register or to a pair
     module _ (to : ℕ) (what : Written) (when : Throws) (is : act_at x.app f.method f.index ≡ Some (Write to what when)) (mask : in_mask (passes_by own when row now) now ≡ true) where
@@ -352,9 +353,11 @@ module _ (x : SubjectParts) (own : ℕ) (set_of : Set) (p : Premises x own set_o
         each_if (IsInside x own set_of) (gives_lock f arguments 0) (Over Escape ∷ []) (answers x p.at h f rest (Object (Some kind.0)) ∷ [])
         (λ g. absurd (false≢true (sym (subst (λ (o : Option Act). is_escape o row ≡ false) is (p.tagged.no_escape f.method f.index t.entered)) ∙ given_by_tag row f t.lo (length h.locks) h t.registers arguments 0 g)))
         (λ _.
-        (let same : result_index f ≡ result_cell row = ap pred t.registers.count in
-        (subst (λ r. IsInside x own set_of (writes x p.at h f rest r (Object (Some kind.0)))) (sym same)
-        (write_ok (Fill arguments kind) (result_cell row) tag.Solid (Object (Some kind.0)) is (only_status h own) (λ a. a) tt), tt)))
+        (let same : result_index f ≡ result_cell row = ap pred t.registers.count in (
+          subst (λ r. IsInside x own set_of (writes x p.at h f rest r (Object (Some kind.0)))) (sym same)
+              (write_ok (Fill arguments kind) (result_cell row) tag.Solid (Object (Some kind.0)) is (only_status h own) (λ a. a) tt),
+          tt,
+        )))
 
     -- ---- every instruction
     pub act_ok : (o : Option Act) → act_at x.app f.method f.index ≡ o → Each (IsInside x own set_of) (act_options x p.at h f rest o)

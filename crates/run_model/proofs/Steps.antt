@@ -26,7 +26,8 @@ use Rattle.flow_model.specs.Subject.{status_masks, own_operation, mask_passes, m
 use Rattle.run_model.specs.Heaps.{Value, Zero, Heap, status, is_lost, counter_at, cell}
 use Rattle.run_model.specs.Machine.{Callback, Frame, Running, handlers_of, goes_to, goes_on, moved, throws_from}
 use Rattle.run_model.specs.Relation.{AreTagged, Below, Each, IsCallback, IsHeap, IsInside, IsTop, Means}
-use Rattle.run_model.specs.Tagged.{IsLive, IsTagged, can_throw, leads_on, may_throw}
+use Rattle.run_model.specs.Tagged.{IsTagged}
+use Rattle.flow_model.specs.TagFlow.{IsLive, can_throw, leads_on, may_throw}
 use Rattle.run_model.proofs.Members.{each_append, each_if, each_map_at}
 use Rattle.run_model.proofs.Rows.{only_ok}
 use Rattle.run_model.proofs.Heaps.{status_is}
