@@ -1,7 +1,7 @@
 #!/bin/sh
 # Measures how the time of the whole program grows where a careless body would multiply two sizes: a chain of classes in
-# either order, a cycle of classes in the worst one, and a file that is read in many pieces. Each at a size and at twice
-# that size, in turns, in one run. Prints seconds and ratios. Needs python3 and sha1sum.
+# either order, a cycle of classes in the worst one, and a file that is read in many pieces. Each at a size and at four
+# times that size, in turns, in one run. Prints seconds and ratios. Needs python3 and sha1sum.
 #
 # usage: growth.sh [PROGRAM]
 #
@@ -18,11 +18,11 @@ import struct, sys
 from dex_writer import string_data, summed
 from turns import Turns, cost_of
 
-CLASSES = 40_000
-BYTES = 16 * 1024 * 1024
+CLASSES = 10_000
+BYTES = 8 * 1024 * 1024
+TIMES = 4
 NONE = 0xffffffff
-TURNS = 7
-PROGRAM = 'nosleep'
+TURNS = 5
 
 program, folder = sys.argv[1:]
 
@@ -73,23 +73,23 @@ def cost(words, status):
 
 def measure(make, size, status):
     paths = {}
-    for times in (1, 2):
+    for times in (1, TIMES):
         paths[times] = f'{folder}/{times}'
         with open(paths[times], 'wb') as file:
             file.write(make(times * size))
 
     def turn():
         took = {times: cost([program, 'receiver', path, 'Lapp/R;'], status) for times, path in paths.items()}
-        return {**took, 'sha1sum': cost(['sha1sum', paths[2]], 0)}
+        return {**took, 'sha1sum': cost(['sha1sum', paths[TIMES]], 0)}
 
     return Turns(turn, TURNS)
 
 
-print(f'medians of {TURNS} turns of user and system time; twice: the time at twice the size to that at the size')
-print(f'{"":34}{"size":>10}{"seconds":>9}{"twice":>9}{"ratio":>7}{"to sha1sum":>12}')
+print(f'medians of {TURNS} turns of user and system time; the larger file is {TIMES} times as large')
+print(f'{"":34}{"size":>10}{"seconds":>9}{"larger":>9}{"ratio":>7}{"to sha1sum":>12}')
 for name, make, size, status in CASES:
     turns = measure(make, size, status)
-    once, twice = (turns.middle(lambda turn: turn[times]) for times in (1, 2))
-    beside = turns.middle(lambda turn: turn[2] / turn['sha1sum'])
-    print(f'{name:34}{size:>10}{once:>9.3f}{twice:>9.3f}{twice / once:>7.2f}{beside:>12.2f}', flush=True)
+    small, large = (turns.middle(lambda turn: turn[times]) for times in (1, TIMES))
+    beside = turns.middle(lambda turn: turn[TIMES] / turn['sha1sum'])
+    print(f'{name:34}{size:>10}{small:>9.3f}{large:>9.3f}{large / small:>7.2f}{beside:>12.2f}', flush=True)
 PYTHON
