@@ -1,5 +1,5 @@
 -- What holds of an application that was linked.
-use Rattle.std.proofs.Common.{Result, IfOk, Err, ◌≡◌, ◌≢◌, ◌<◌, ◌≤◌, ◌+◌, ◌⊎◌, inl, inr, nat_eq, nat_lt, bytes_eq, ℕ, zero, suc, true, false, List, [], ◌∷◌, ◌++◌, length, get_or, slice_get, slice_index_or, position, cond, ltb, sum_by, Option, Some, None, option_map, Ok, All, AllPairs, Contains, refl, sym, ap, subst, ◌∙◌, ⊎_elim, arith, true≢false, length-append}
+use Rattle.std.proofs.Common.{◌≡◌, ◌≢◌, ◌<◌, ◌≤◌, ◌+◌, ◌⊎◌, inl, inr, nat_eq, nat_lt, bytes_eq, ℕ, zero, suc, true, false, List, [], ◌∷◌, ◌++◌, length, get_or, slice_get, slice_index_or, position, cond, ltb, sum_by, Option, Some, None, option_map, Ok, All, AllPairs, Contains, refl, sym, ap, subst, ◌∙◌, ⊎_elim, arith, true≢false, length-append}
 use Rattle.std.specs.List.{position_or_len}
 use Rattle.std.proofs.lemmas.Bool.{cases_Bool, ltb-false}
 use Rattle.std.proofs.lemmas.Bool.Decides.{nat_tests}
@@ -24,12 +24,11 @@ use Rattle.app_rows.specs.Numbers.{seen_in}
 use Rattle.app_rows.proofs.Fitting.{IsCoded, AreCoded, methods_sound, bodies_sound, instructions_few}
 use Rattle.app_rows.proofs.Once.{spelled_once}
 use Rattle.app_rows.proofs.Ranges.{in_range}
-use Rattle.app_link.specs.declared.link_fault.LinkFault.{LinkFault}
 use Rattle.app_link.specs.declared.link_fault.LinkFault.TheVariants.{Limit}
 use Rattle.app_link.specs.declared.class_checks.Repeat.{Repeat}
 use Rattle.app_link.specs.declared.code_checks.CodeWrong.TheVariants.{Missing, Unwanted}
 use Rattle.app_link.specs.LinkFaults.{◌or◌, above, class_counts, class_names, duplicate_fault, locks_fault, sites_fault, units_fault, code_fault, code_fault_from, duplicate_of, is_wrong, repeat_at, repeat_from, wrong_in, wrong_in_class, wrong_in_classes}
-use Rattle.app_link.specs.Linking.{IsAcyclic, IsChecked, IsLinked, early_fault, late_fault}
+use Rattle.app_link.specs.Linking.{IsAcyclic, IsChecked, IsLinked, early_fault}
 use Rattle.app_link.proofs.Ancestry.{at_get}
 
 none_both : {A : Type 0} (a b : Option A) → (a or b) ≡ None → (a ≡ None) × (b ≡ None)
