@@ -7,7 +7,6 @@ pub mod LockUse
 pub mod Hierarchy
 pub mod Index
 pub mod Slots
-pub mod Subtypes
 pub mod Components
 pub mod Ancestors
 pub mod Sound
