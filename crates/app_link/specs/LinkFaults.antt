@@ -1,5 +1,5 @@
 -- Why files are no application, and which fault comes first.
-use Rattle.std.specs.Prelude.{ℕ, zero, suc, ◌≡◌, ◌<◌, ◌+◌, ◌-◌, ◌==◌, ◌&&◌, true, false, nat_lt, nat_eq, not, List, [], ◌∷◌, ◌++◌, length, map, sum_by, position, bit_and, Bool, if◌then◌else◌, is_some, option_map, Option, Some, None, slice_get}
+use Rattle.std.specs.Prelude.{ℕ, zero, suc, ◌≡◌, ◌<◌, ◌+◌, ◌-◌, ◌&&◌, true, false, nat_lt, nat_eq, not, List, [], ◌∷◌, ◌++◌, length, map, sum_by, position, Bool, if◌then◌else◌, is_some, option_map, Option, Some, None, slice_get}
 use Rattle.ns_base.specs.Answers.{limit_of}
 use Rattle.ns_base.specs.declared.answers.Counted.{Counted}
 use Rattle.ns_base.specs.declared.answers.Counted.TheVariants.{Units, Locks, Sites}

@@ -1,12 +1,11 @@
 -- Calls, lock fields and subtypes of a small application, by computation. No contract speaks of them: they show that the
 -- definitions tell apart what they are to tell apart.
-use Rattle.std.proofs.Common.{◌≡◌, ℕ, Bool, true, false, List, [], ◌∷◌, Option, Some, None, codes, refl}
+use Rattle.std.proofs.Common.{◌≡◌, ℕ, true, false, List, [], ◌∷◌, Option, Some, None, codes, refl}
 use Rattle.ns_base.specs.declared.rows.TypeNo.{TypeNo}
 use Rattle.dalvik.specs.declared.opcode.TheConstants.{INVOKE_STATIC, INVOKE_VIRTUAL, INVOKE_VIRTUAL_RANGE}
 use Rattle.app_model.specs.declared.lock_use.LockUse.{LockUse}
 use Rattle.app_model.specs.declared.lock_use.LockUse.TheVariants.{Plain, Make, Acquire, Release, IsHeld, Mode, Wrong}
 use Rattle.app_model.specs.declared.rows.FieldRow.{FieldRow}
-use Rattle.app_model.specs.declared.rows.Named.{Named}
 use Rattle.app_model.specs.Hierarchy.{above_type, class_of_type, has_unknown_above, is_sub, line_of, lock_in, lock_of, may_be_sub, superclass_at}
 use Rattle.app_model.specs.LockUse.{use_of}
 use Rattle.app_model.specs.Names.{is_proto, name_text, power_manager_name, string_name, type_text, wake_lock_name}

@@ -1,7 +1,6 @@
 -- An instruction names a method where it is an invoke, and nowhere else.
-use Rattle.std.proofs.Common.{◌≡◌, ◌⊎◌, ℕ, ◌<◌, ◌≤◌, List, [], length, Some, is_some, slice_get, slice_index_or, refl, ap, ⊎_elim, arith, subst, sym}
+use Rattle.std.proofs.Common.{◌≡◌, ℕ, ◌<◌, List, [], length, Some, is_some, slice_get, slice_index_or, refl, ap, ⊎_elim, arith}
 use Rattle.std.proofs.lemmas.Option.{slice_get_cases}
-use Rattle.dalvik.specs.declared.body.Place.{Place}
 use Rattle.dalvik.specs.declared.ins.Ins.{Ins}
 use Rattle.dalvik.specs.declared.ins.Ins.TheVariants as ins
 use Rattle.app_model.specs.declared.rows.Operand.{Operand}
