@@ -288,11 +288,7 @@ fn test(op: u8, value: u32) -> Act
 fn number(wide: bool) -> Written
     ensures { result ≡ spec.number_of wide }
 {
-    if wide {
-        Written::Pair
-    } else {
-        Written::Number
-    }
+    if wide { Written::Pair } else { Written::Number }
 }
 
 fn constant(op: u8, value: i64) -> Written
@@ -368,11 +364,7 @@ fn read_act(to: u32, slot: Option<LockNo>, op: u8, throws: Throws) -> Act
     ensures { result ≡ spec.read_act to (option_map (λ (l : LockNo). l.0) slot) op throws }
 {
     match slot {
-        Some(slot) => Act::ReadSlot {
-            to,
-            slot,
-            throws,
-        },
+        Some(slot) => Act::ReadSlot { to, slot, throws },
         None => write(to, read(op), throws),
     }
 }
@@ -381,11 +373,7 @@ fn write_act(from: u32, slot: Option<LockNo>, throws: Throws) -> Act
     ensures { result ≡ spec.write_act from (option_map (λ (l : LockNo). l.0) slot) throws }
 {
     match slot {
-        Some(slot) => Act::WriteSlot {
-            from,
-            slot,
-            throws,
-        },
+        Some(slot) => Act::WriteSlot { from, slot, throws },
         None => Act::Give { from, throws },
     }
 }

@@ -29,7 +29,12 @@ pub fn tag_after<R: Row>(row: &R, site: u32, act: &Act, cell: usize) -> Tag
         Act::Fill { .. } => result_cell(row, cell, Tag::Solid),
         Act::ReadSlot { to, slot, .. } => set_cell(row, cell, to as usize, Tag::Field(slot)),
         Act::WriteSlot { from, slot, .. } => stored_cell(row, cell, from, slot),
-        Act::Call { usage, args, gives, .. } => call_cell(row, cell, site, (usage, args, gives)),
+        Act::Call {
+            usage,
+            args,
+            gives,
+            ..
+        } => call_cell(row, cell, site, (usage, args, gives)),
         Act::Go
         | Act::Test { .. }
         | Act::Give { .. }
@@ -80,11 +85,7 @@ fn set_cell<R: Row>(row: &R, cell: usize, to: usize, tag: Tag) -> Tag
     requires { cell < length (R.tags row.now) }
     ensures { result ≡ spec.tag_in (slice_set (R.tags row.now) to tag) cell }
 {
-    if cell == to {
-        tag
-    } else {
-        row.tag(cell)
-    }
+    if cell == to { tag } else { row.tag(cell) }
 }
 
 // A cell after a register, or it and the next one, was set.
@@ -139,8 +140,8 @@ fn thrown_cell<R: Row>(row: &R, cell: usize, usage: LockUse, args: &Args) -> Tag
 fn call_cell<R: Row>(row: &R, cell: usize, site: u32, call: (LockUse, Args, Gives)) -> Tag
     requires { cell < length (R.tags row.now) }
     ensures { let tags = R.tags row.now in
-      let receiver = spec.tag_in tags (receiver_of call.1) in
-      result ≡ spec.tag_in (slice_set (map (spec.call_change call.0 receiver) tags) (spec.result_cell tags) (spec.result_tag site call.0 call.2 receiver)) cell }
+        let receiver = spec.tag_in tags (receiver_of call.1) in
+        result ≡ spec.tag_in (slice_set (map (spec.call_change call.0 receiver) tags) (spec.result_cell tags) (spec.result_tag site call.0 call.2 receiver)) cell }
 {
     let (usage, args, gives) = call;
     if cell == row.cells() - 1 {

@@ -14,3 +14,6 @@ pub use act::{Act, By, Gives, Returned, Throws, Written, act_of};
 pub use changes::{call_change, receiver_tag, stored_change, tag_after, tag_called, tag_thrown};
 pub use row::Row;
 pub use tags::join;
+
+#[cfg(test)]
+mod tests;

@@ -1,14 +1,17 @@
 //! Files linked: each fault where it comes first, and numbers over two files.
-ghost use Rattle.std.specs.Prelude.{◌≡◌, ◌≤◌, ◌^◌, sum_by, IsTrue};
-ghost use Rattle.dex_file.specs.Sizes.{members_of};
+ghost use Rattle.std.specs.Prelude.{◌≡◌, ◌≤◌, ◌+◌, ◌^◌, length, sum_by, IfOk, IsTrue};
+ghost use Rattle.std.specs.List.{All};
+ghost use Rattle.dex_file.specs.Sizes.{members_of, IsShort};
 ghost use Rattle.app_rows.specs.Small.{AreSmall, IsSmall};
 
 use crate::LinkFault;
-use crate::linking::check_parts;
+use crate::linking::{check_parts, link};
 use crate::ranks::rank_types;
-use app_model::{AppRows, ClassRow};
+use app_model::{App, AppRows, ClassRow};
 use dalvik::Body;
-use dex_file::{FileClass, FileCode, FileField, FileMethod, FileParts, FileProto};
+use dex_file::{
+    DexParts, FileClass, FileCode, FileField, FileMethod, FileParts, FileProto, read_dex,
+};
 use dex_tables::{FieldId, MethodId};
 use ns_base::{ClassNo, Counted, TypeNo};
 use std::alloc::{AllocError, Global};
@@ -347,6 +350,75 @@ fn types_have_first_seen_numbers(rt: HostRuntime) -> Result<(), Fail> {
         return Err("one method".into());
     };
     assert_eq!(rt; method.class, ClassNo(1));
+    Ok(())
+}
+
+// The third file has the superclass of the first one's class.
+const THREE: [FileForm; 3] = [
+    FileForm {
+        texts: &["LA;", "LC;"],
+        classes: &[ClassForm {
+            parent: Some(1),
+            ..A
+        }],
+        fields: 0,
+    },
+    FileForm {
+        texts: &["LB;", "LA;"],
+        classes: &[A],
+        fields: 0,
+    },
+    FileForm {
+        texts: &["LC;", "LB;"],
+        classes: &[A],
+        fields: 0,
+    },
+];
+
+// A file that is a header alone.
+static HEADER: [u8; 112] = [
+    100, 101, 120, 10, 48, 51, 53, 0, 48, 12, 18, 61, 165, 252, 123, 234, 143, 169, 255, 170, 82,
+    36, 53, 64, 200, 2, 96, 102, 81, 27, 159, 206, 112, 0, 0, 0, 112, 0, 0, 0, 120, 86, 52, 18, 0,
+    0, 0, 0, 0, 0, 0, 0, 0, 0, 0, 0, 0, 0, 0, 0, 0, 0, 0, 0, 0, 0, 0, 0, 0, 0, 0, 0, 0, 0, 0, 0, 0,
+    0, 0, 0, 0, 0, 0, 0, 0, 0, 0, 0, 0, 0, 0, 0, 0, 0, 0, 0, 0, 0, 0, 0, 0, 0, 0, 0, 0, 0, 0, 0, 0,
+    0, 0, 0,
+];
+
+// One file more, with no class.
+fn push_empty(alloc: Global, files: &mut Vec<DexParts>) -> Result<(), AllocError>
+    requires { All IsShort files.old.items }
+    ensures short { IfOk result (λ _. All IsShort files.new.items) }
+    ensures count { IfOk result (λ _. length files.new.items ≡ length files.old.items + 1) }
+{
+    match read_dex(alloc, &HEADER) {
+        Ok(file) => {
+            files.push(file)?;
+            Ok(())
+        }
+        Err(_) => Err(AllocError),
+    }
+}
+
+fn link_empty(alloc: Global) -> Result<App, LinkFault> {
+    let mut files = Vec::new(alloc);
+    push_empty(alloc, &mut files)?;
+    push_empty(alloc, &mut files)?;
+    push_empty(alloc, &mut files)?;
+    link(alloc, files)
+}
+
+#[test]
+fn three_files_that_were_read_are_linked(rt: HostRuntime) -> Result<(), Fail> {
+    let app = link_empty(rt.alloc()).ok().ok_or("the files link")?;
+    assert_eq!(rt; app.class_count(), 0);
+    Ok(())
+}
+
+#[test]
+fn three_files_are_linked(rt: HostRuntime) -> Result<(), Fail> {
+    let rows = link_forms(rt.alloc(), &THREE).ok().ok_or("the files link")?;
+    assert_eq!(rt; (rows.classes.len(), rows.types.len()), (3, 3));
+    assert_eq!(rt; rows.types[2].as_slice(), b"LC;".as_slice());
     Ok(())
 }
 

@@ -1,5 +1,5 @@
 -- Tags and their cells.
-use Rattle.std.proofs.Common.{◌≡◌, ℕ, zero, suc, ◌+◌, ◌*◌, ◌<◌, ◌≤◌, List, [], length, slice_index_or, refl, ⊎_elim, arith, lt-ltb, le-ltb}
+use Rattle.std.proofs.Common.{sym, ◌≡◌, ℕ, zero, suc, ◌+◌, ◌*◌, ◌<◌, ◌≤◌, List, [], length, slice_index_or, refl, ⊎_elim, arith, lt-ltb, le-ltb}
 use Rattle.std.proofs.lemmas.Grind.{common_steps}
 use Rattle.std.proofs.lemmas.Bool.{cases_lt}
 use Rattle.std.proofs.lemmas.Bool.Decides.{nat_tests}
@@ -91,6 +91,10 @@ cell_below table m place sound =
 pub length-row_at : (table : TagParts) (m i : ℕ) → length (row_at table m i) ≡ width_at table m
 unfolding row_at
 length-row_at table m i = length-map-range_with_len (λ r. tag_of (cell_at table m (i * width_at table m + r))) 0 (width_at table m)
+
+-- the same the other way round
+pub row_at_width : (table : TagParts) (m i : ℕ) → width_at table m ≡ length (row_at table m i)
+row_at_width table m i = sym (length-row_at table m i)
 
 pub tag_within : (table : TagParts) (m i r : ℕ) → r < width_at table m → tag_at table m i r ≡ tag_of (cell_at table m (i * width_at table m + r))
 unfolding row_at

@@ -1,6 +1,8 @@
 pub mod Callees
 pub mod Cells
 pub mod Descriptors
+pub mod Examples
 pub mod HierarchyLaws
-pub mod Samples
+pub mod Invokes
 pub mod Searches
+pub mod TypeIndex

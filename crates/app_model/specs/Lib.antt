@@ -6,6 +6,7 @@ pub mod Names
 pub mod LockUse
 pub mod Sites
 pub mod Hierarchy
+pub mod Index
 pub mod Slots
 pub mod Subtypes
 pub mod Components

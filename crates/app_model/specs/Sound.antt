@@ -10,6 +10,8 @@ use Rattle.ns_base.specs.declared.rows.ClassNo.{ClassNo}
 use Rattle.ns_base.specs.declared.rows.FieldNo.{FieldNo}
 use Rattle.dalvik.specs.declared.ins.Ins.{Ins}
 use Rattle.dalvik.specs.declared.ins.Ins.TheVariants as ins
+use Rattle.dalvik.specs.declared.naming.Naming.{Naming}
+use Rattle.dalvik.specs.declared.naming.Naming.TheVariants as naming
 use Rattle.app_model.specs.declared.rows.MethodRow.{MethodRow}
 use Rattle.app_model.specs.declared.rows.FieldRow.{FieldRow}
 use Rattle.app_model.specs.declared.rows.Operand.{Operand}
@@ -19,6 +21,7 @@ use Rattle.dalvik.specs.Access.{is_bodiless}
 use Rattle.dalvik.specs.Body.{BodyRows, IsBody}
 use Rattle.dalvik.specs.Descriptors.{words_of}
 use Rattle.dalvik.specs.Calls.{args_len, is_static_call}
+use Rattle.dalvik.specs.Naming.{naming_of}
 use Rattle.app_model.specs.Names.{type_text, wake_lock_name}
 use Rattle.app_model.specs.Parts.{AppParts, ClassParts, ProtoParts}
 use Rattle.app_model.specs.Words.{IsApp, code_len, ins_at, operand_at, no_body}
@@ -60,23 +63,13 @@ IsOperand app Plain = Unit {0}
 IsOperand app (Invoke named) = IsType app named.class × IsName app named.name × IsProto app named.proto
 IsOperand app (Access field) = IsType app field.class × IsName app field.name × IsType app field.kind
 
--- the type that an instruction names
-abbrev pub kind_of : Ins → Option ℕ
-kind_of (ins.ConstClass to kind) = Some kind
-kind_of (ins.CheckCast object kind) = Some kind
-kind_of (ins.InstanceOf to object kind) = Some kind
-kind_of (ins.NewInstance to kind) = Some kind
-kind_of (ins.NewArray to size kind) = Some kind
-kind_of (ins.FilledNewArray op kind arguments) = Some kind
-kind_of other = None
-
 pub record AreInRange (app : AppParts) : Type 0 where
   pub protos : All (IsProtoRow app) app.protos
   pub classes : All (IsClassRow app) app.classes
   pub methods : All (IsMethodRow app) app.methods
   pub fields : All (IsFieldRow app) app.fields
   pub operands : All (λ operands. All (IsOperand app) operands) app.operands
-  pub kinds : (m i : ℕ) (own : Ins) (t : ℕ) → ins_at app m i ≡ Some own → kind_of own ≡ Some t → t < length app.types
+  pub kinds : (m i : ℕ) (own : Ins) (t : ℕ) → ins_at app m i ≡ Some own → naming_of own ≡ naming.Kind t → t < length app.types
 
 -- ---- what is spelled alike has one number
 abbrev pub AreDistinct : {A : Type 0} → List A → Type 0
@@ -100,21 +93,20 @@ abbrev pub params_len : AppParts → Option ProtoParts → ℕ
 params_len app None = 0
 params_len app (Some proto) = sum_by (λ (t : TypeNo). words_of (type_text app t.0)) proto.params
 
--- a call names a method and as many registers as its arguments take, an access of a field a field, all else nothing
+-- an operand stands for what an instruction names: one of a method for a method, one of a field for a field, and else a plain one
+abbrev pub StandsFor : Naming → Operand → Type 0
+StandsFor (naming.Method method) (Invoke named) = Unit {0}
+StandsFor (naming.Method method) other = ⊥
+StandsFor (naming.Field field) (Access named) = Unit {0}
+StandsFor (naming.Field field) other = ⊥
+StandsFor own Plain = Unit {0}
+StandsFor own other = ⊥
+
+-- and a call names as many registers as the arguments of its method take
 abbrev pub FitsOperand : AppParts → Ins → Operand → Type 0
 FitsOperand app (ins.Invoke op method arguments) (Invoke named) =
     args_len arguments ≡ (if is_static_call op then 0 else 1) + params_len app (slice_get app.protos named.proto.0)
-FitsOperand app (ins.Invoke op method arguments) other = ⊥
-FitsOperand app (ins.FieldGet op to object field) (Access named) = Unit {0}
-FitsOperand app (ins.FieldGet op to object field) other = ⊥
-FitsOperand app (ins.FieldPut op value object field) (Access named) = Unit {0}
-FitsOperand app (ins.FieldPut op value object field) other = ⊥
-FitsOperand app (ins.StaticGet op to field) (Access named) = Unit {0}
-FitsOperand app (ins.StaticGet op to field) other = ⊥
-FitsOperand app (ins.StaticPut op value field) (Access named) = Unit {0}
-FitsOperand app (ins.StaticPut op value field) other = ⊥
-FitsOperand app own Plain = Unit {0}
-FitsOperand app own other = ⊥
+FitsOperand app own operand = StandsFor (naming_of own) operand
 
 pub record IsSoundMethod (app : AppParts) (m : ℕ) (method : MethodRow) : Type 0 where
   pub registers : (slice_index_or app.code m no_body).registers ≡ method.registers

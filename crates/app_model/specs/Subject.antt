@@ -92,3 +92,9 @@ pub record IsSubject (x : SubjectParts) : Type 0 where
   pub answers : length x.answers ≡ length x.list
   pub owners : length x.owners ≡ slot_count x
   pub owned : (l c : ℕ) → owner_at x l ≡ Some c → c < length x.list
+
+-- a method that is reached, and can be entered
+pub record IsEnterable (x : SubjectParts) (m : ℕ) : Type 0 where
+  pub there : m < length x.app.methods
+  pub reached : is_reached x m ≡ true
+  pub begins : 0 < code_len x.app m

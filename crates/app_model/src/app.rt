@@ -1,37 +1,44 @@
 //! A linked application.
-ghost use Rattle.std.specs.Prelude.{◌≡◌, ◌<◌, length, slice_get, Some};
-ghost use Rattle.app_model.specs.Sound.{IsSoundApp};
+ghost use Rattle.std.specs.Prelude.{◌≡◌, ◌<◌, IfOk, is_some, length, slice_get, Some};
+ghost use Rattle.app_model.specs.LockUse.{invoke_of};
+ghost use Rattle.app_model.specs.Sound.{IsSoundApp, IsProtoRow, IsClassRow, IsMethodRow, IsFieldRow};
 ghost use Rattle.app_model.specs.Words.{places_of, place_at, operand_at, code_len, ins_at, pc_at, successor_at, handler_at, leaves_at, named_at};
 
+use crate::hierarchy::index_types;
 use crate::rows::{AppRows, ClassRow, FieldRow, MethodRow, Named, Operand, ProtoRow};
 use dalvik::{Body, Ins, Place};
 use ns_base::{ClassNo, FieldNo, MethodNo, NameNo, ProtoNo, TypeNo};
+use std::alloc::{AllocError, Global};
 use std::marker::Model;
 
 /// All that the layers above read of the files: rows by number, and each method's code.
+/// `index` has the class of each type.
 #[derive(Drop)]
 pub struct App {
     pub(crate) rows: AppRows,
+    pub(crate) index: Vec<Option<ClassNo>>,
 }
 
 impl Model for App {
     ghost use Rattle.app_model.specs.Parts.{AppParts};
+    ghost use Rattle.std.specs.Prelude.{length};
+    ghost use Rattle.app_model.specs.Index.{IsIndex};
     ghost use Rattle.app_model.specs.Sound.{IsSoundApp};
 
     ghost Value = { AppParts };
 
     ghost view = { λ a. a.rows };
 
-    ghost invariant = { λ a. IsSoundApp a.rows };
+    ghost invariant = { λ a. IsSoundApp a.rows × IsIndex (length a.rows.types) a.rows.classes a.index.items };
 }
 
 impl App {
-    /// Takes no memory.
-    pub fn new(rows: AppRows) -> App
+    pub fn new(alloc: Global, rows: AppRows) -> Result<App, AllocError>
         requires { IsSoundApp rows }
-        ensures { result ≡ rows }
+        ensures { IfOk result (λ app. app ≡ rows) }
     {
-        App { rows }
+        let index = index_types(alloc, rows.types.len(), &rows.classes)?;
+        Ok(App { rows, index })
     }
 
     /// What holds of each application.
@@ -94,28 +101,32 @@ impl App {
 
     pub fn proto(&self, proto: ProtoNo) -> &ProtoRow
         requires { proto.0 < length self.now.protos }
-        ensures { slice_get self.now.protos proto.0 ≡ Some result.now }
+        ensures is { slice_get self.now.protos proto.0 ≡ Some result.now }
+        ensures sound { IsProtoRow self.now result.now }
     {
         &self.rows.protos[proto.0 as usize]
     }
 
     pub fn class(&self, class: ClassNo) -> &ClassRow
         requires { class.0 < length self.now.classes }
-        ensures { slice_get self.now.classes class.0 ≡ Some result.now }
+        ensures is { slice_get self.now.classes class.0 ≡ Some result.now }
+        ensures sound { IsClassRow self.now result.now }
     {
         &self.rows.classes[class.0 as usize]
     }
 
     pub fn method(&self, method: MethodNo) -> &MethodRow
         requires { method.0 < length self.now.methods }
-        ensures { slice_get self.now.methods method.0 ≡ Some result.now }
+        ensures is { slice_get self.now.methods method.0 ≡ Some result.now }
+        ensures sound { IsMethodRow self.now result.now }
     {
         &self.rows.methods[method.0 as usize]
     }
 
     pub fn field(&self, field: FieldNo) -> &FieldRow
         requires { field.0 < length self.now.fields }
-        ensures { slice_get self.now.fields field.0 ≡ Some result.now }
+        ensures is { slice_get self.now.fields field.0 ≡ Some result.now }
+        ensures sound { IsFieldRow self.now result.now }
     {
         &self.rows.fields[field.0 as usize]
     }
@@ -181,7 +192,8 @@ impl App {
     pub fn named(&self, method: MethodNo, index: u32) -> Option<Named>
         requires method { method.0 < length self.now.methods }
         requires index { index < code_len self.now method.0 }
-        ensures { result ≡ named_at self.now method.0 index }
+        ensures is { result ≡ named_at self.now method.0 index }
+        ensures exact { is_some result ≡ is_some (invoke_of (ins_at self.now method.0 index)) }
     {
         match self.operand(method, index) {
             Operand::Invoke(named) => Some(named),
@@ -212,7 +224,8 @@ impl App {
     pub(crate) fn operand(&self, method: MethodNo, index: u32) -> Operand
         requires method { method.0 < length self.now.methods }
         requires index { index < code_len self.now method.0 }
-        ensures { operand_at self.now method.0 index ≡ Some result }
+        ensures is { operand_at self.now method.0 index ≡ Some result }
+        ensures exact { is_some (named_at self.now method.0 index) ≡ is_some (invoke_of (ins_at self.now method.0 index)) }
     {
         self.rows.operands[method.0 as usize][index as usize]
     }

@@ -1,5 +1,9 @@
 //! Components: their kinds, the edges of their lifecycles, and the rows of a component list.
-use ns_base::{ClassNo, MethodNo};
+ghost use Rattle.std.specs.Prelude.{◌≡◌, option_map};
+ghost use Rattle.app_model.specs.Components.{callback_at};
+ghost use Rattle.ns_base.specs.declared.rows.MethodNo.{MethodNo};
+
+use ns_base::{ClassNo, ComponentNo, MethodNo};
 use std::marker::Model;
 
 /// What a component is. `docs/model.md` has the lifecycle of each kind.
@@ -52,4 +56,20 @@ impl Model for ComponentTable {
     ghost Value = { List ComponentParts };
 
     ghost view = { λ t. t.rows.items };
+}
+
+impl ComponentTable {
+    /// The method of a component's callback; none out of range, and where the application has none.
+    #[tactic(auto, unfolding(crate::specs::Components::callback_at))]
+    pub fn callback(&self, component: ComponentNo, callback: u32) -> Option<MethodNo>
+        ensures { option_map (λ (m : MethodNo). m.0) result ≡ callback_at self.now component.0 callback }
+    {
+        let Some(row) = self.rows.get(component.0 as usize) else {
+            return None;
+        };
+        match row.methods.get(callback as usize) {
+            Some(method) => *method,
+            None => None,
+        }
+    }
 }

@@ -4,6 +4,7 @@
 //! - `names` spells types, names and prototypes.
 //! - `lock_use` and `slots` tell calls and fields of wake locks apart from others.
 //! - `component` has the components and their lifecycles.
+//! - `hierarchy` has the classes of types, and those above them.
 //! - `laws` has what holds of every application.
 //! - `tag` is what is known of a register's value; `tag_table` has it before each instruction.
 //! - `call_graph` has what each call can call.
@@ -13,6 +14,7 @@
 mod app;
 mod call_graph;
 mod component;
+mod hierarchy;
 mod laws;
 mod lock_use;
 mod names;

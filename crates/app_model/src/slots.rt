@@ -1,10 +1,9 @@
 //! Which wake-lock field an instruction reads or writes.
 ghost use Rattle.std.specs.Prelude.{◌≡◌, ◌<◌, length, Some, option_map, slice_get};
 ghost use Rattle.app_model.specs.Words.{code_len};
-ghost use Rattle.app_model.specs.Names.{type_text, name_text};
-ghost use Rattle.app_model.specs.Slots.{class_text, is_declared, lock_in, parent_text, lock_from, is_object_access, lock_named, slot_at};
+ghost use Rattle.app_model.specs.Hierarchy.{is_named_field, lock_in, lock_of};
+ghost use Rattle.app_model.specs.Slots.{class_text, is_object_access, lock_named, slot_at};
 ghost use Rattle.ns_base.specs.declared.rows.LockNo.{LockNo};
-ghost use Rattle.ns_base.specs.declared.rows.TypeNo.{TypeNo};
 
 use crate::app::App;
 use crate::names::WAKE_LOCK;
@@ -67,64 +66,45 @@ impl App {
         }
     }
 
-    // The lock field of a name in a class, or else the nearest one above it.
-    fn nearest_lock(&self, class: TypeNo, name: NameNo) -> Option<LockNo>
-        ensures { option_map (λ (l : LockNo). l.0) result
-            ≡ lock_from self.now (length self.now.classes) (type_text self.now class.0) (name_text self.now name.0) }
+    // The lock field of a name in the class of a type, or else in the nearest one above it.
+    #[tactic(auto, unfolding(crate::specs::Hierarchy::lock_of, crate::specs::Hierarchy::line_of))]
+    fn nearest_lock(&self, kind: TypeNo, name: NameNo) -> Option<LockNo>
+        ensures { option_map (λ (l : LockNo). l.0) result ≡ lock_of self.now kind.0 name.0 }
     {
-        let mut class = class;
+        let mut class = self.class_of_type(kind);
         for _step in 0..self.class_count() {
-            if let Some(lock) = self.lock_in(class, name) {
+            let here = class?;
+            if let Some(lock) = self.lock_in(here, name) {
                 return Some(lock);
             }
-            let Some(parent) = self.parent_of(class) else {
-                return None;
-            };
-            class = parent;
+            class = self.superclass(here);
         }
-        self.lock_in(class, name)
+        None
     }
 
     // The first lock field of a class under a name.
-    #[tactic(auto, unfolding(crate::specs::Slots::lock_in))]
-    fn lock_in(&self, class: TypeNo, name: NameNo) -> Option<LockNo>
-        ensures { option_map (λ (l : LockNo). l.0) result ≡ lock_in self.now (type_text self.now class.0) (name_text self.now name.0) }
+    #[tactic(auto, unfolding(crate::specs::Hierarchy::lock_in))]
+    fn lock_in(&self, class: ClassNo, name: NameNo) -> Option<LockNo>
+        ensures { option_map (λ (l : LockNo). l.0) result ≡ lock_in self.now name.0 class.0 }
     {
         let _ = &self.rows;
         let locks = self.locks();
         for i in 0..locks.len() {
-            if self.is_declared(locks[i], class, name) {
+            if self.is_named_field(locks[i], class, name) {
                 return Some(LockNo(i as u32));
             }
         }
         None
     }
 
-    // Whether a field has this name, and a class of the name of this type.
-    fn is_declared(&self, field: FieldNo, class: TypeNo, name: NameNo) -> bool
-        ensures { result ≡ is_declared self.now (slice_get self.now.fields field.0) (type_text self.now class.0) (name_text self.now name.0) }
+    fn is_named_field(&self, field: FieldNo, class: ClassNo, name: NameNo) -> bool
+        ensures { result ≡ is_named_field (slice_get self.now.fields field.0) name.0 class.0 }
     {
         if field.0 < self.field_count() {
             let row = self.field(field);
-            self.class_text(row.class) == self.type_text(class)
-                && self.name_text(row.name) == self.name_text(name)
+            row.class.0 == class.0 && row.name.0 == name.0
         } else {
             false
         }
-    }
-
-    // The superclass of the application's class of a type's name.
-    #[tactic(auto, unfolding(crate::specs::Slots::parent_text))]
-    fn parent_of(&self, class: TypeNo) -> Option<TypeNo>
-        ensures { option_map (λ (t : TypeNo). type_text self.now t.0) result ≡ parent_text self.now (type_text self.now class.0) }
-    {
-        let name = self.type_text(class);
-        for i in 0..self.class_count() {
-            let row = self.class(ClassNo(i));
-            if self.type_text(row.name) == name {
-                return row.parent;
-            }
-        }
-        None
     }
 }

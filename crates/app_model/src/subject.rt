@@ -1,7 +1,11 @@
 //! All that is said of an application, as the rules read it.
-ghost use Rattle.std.specs.Prelude.{◌≡◌, ◌<◌, ◌≤◌, length, option_map};
-ghost use Rattle.app_model.specs.Subject.{IsSubject, slot_count, is_reached, answers_at, owner_at};
+ghost use Rattle.std.specs.Prelude.{◌≡◌, ◌<◌, ◌≤◌, length, true, option_map, IfSome};
+ghost use Rattle.std.specs.List.{All};
+ghost use Rattle.app_model.specs.CallGraph.{AreRising};
+ghost use Rattle.app_model.specs.Subject.{IsSubject, IsEnterable, slot_count, is_reached, callees_at, answers_at, owner_at};
+ghost use Rattle.app_model.specs.Components.{callback_at};
 ghost use Rattle.ns_base.specs.declared.rows.ComponentNo.{ComponentNo};
+ghost use Rattle.ns_base.specs.declared.rows.MethodNo.{MethodNo};
 
 use crate::app::App;
 use crate::call_graph::CallGraph;
@@ -74,6 +78,26 @@ impl Subject {
         ensures { result ≡ is_reached self.now method.0 }
     {
         self.reached[method.0 as usize]
+    }
+
+    /// The method of a component's callback, or none where the application has none.
+    pub fn callback(&self, component: ComponentNo, callback: u32) -> Option<MethodNo>
+        requires { component.0 < length self.now.list }
+        ensures callback { option_map (λ (m : MethodNo). m.0) result ≡ callback_at self.now.list component.0 callback }
+        ensures entered { IfSome result (λ m. IsEnterable self.now m.0) }
+    {
+        let _ = &self.app;
+        self.list.callback(component, callback)
+    }
+
+    /// The methods that an instruction of a method that is reached can call, rising.
+    pub fn callees(&self, method: MethodNo, index: u32) -> &[MethodNo]
+        requires { is_reached self.now method.0 ≡ true }
+        ensures callees { result.now ≡ callees_at self.now method.0 index }
+        ensures rising { AreRising result.now }
+        ensures entered { All (λ (n : MethodNo). IsEnterable self.now n.0) result.now }
+    {
+        self.graph.callees(method, index)
     }
 
     /// Whether a component answers for a lock.

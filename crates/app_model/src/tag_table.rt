@@ -1,5 +1,5 @@
 //! What is known of each register before each instruction.
-ghost use Rattle.std.specs.Prelude.{◌≡◌, ◌<◌, ◌+◌, map};
+ghost use Rattle.std.specs.Prelude.{◌≡◌, ◌<◌, ◌+◌, map, ◌≤◌, ◌^◌};
 ghost use Rattle.app_model.specs.TagTable.{IsTagTable, HasCell, cell_count, tag_of, cell_of, cell_at, width_at, tag_at};
 
 use crate::tag::Tag;
@@ -96,6 +96,14 @@ impl TagTable {
         }
         let place = index as usize * (registers as usize + 1) + register as usize;
         Tag::of_cell(self.cell(method, place))
+    }
+
+    /// How many cells a row of a method has: one for each register, and the result cell.
+    pub fn width(&self, method: MethodNo) -> usize
+        ensures width { result ≡ width_at self.now method.0 }
+        ensures limit { result ≤ 2 ^ 32 }
+    {
+        self.registers(method) as usize + 1
     }
 
     // The number of a method's registers.

@@ -15,6 +15,7 @@ use Rattle.app_model.specs.declared.rows.Operand.{Operand}
 use Rattle.dalvik.specs.Body.{BodyRows, IsBody}
 use Rattle.dalvik.specs.Descriptors.{words_of}
 use Rattle.dalvik.specs.Calls.{is_static_call}
+use Rattle.dalvik.specs.Naming.{naming_of}
 use Rattle.app_model.specs.Names.{type_text}
 use Rattle.app_model.specs.Parts.{AppParts}
 use Rattle.dalvik.specs.Access.{is_bodiless}
@@ -115,54 +116,23 @@ module _ (seen : Seen) (x : Members) (file : FileContent) (spelt : IsSpelt seen 
 
   -- ---- what an instruction names fits it
   call-fits : (op method : ℕ) (arguments : Args) → IsSoundIns file (ins.Invoke op method arguments)
-      → FitsOperand app (linked_ins rows (ins.Invoke op method arguments)) (operand_of rows (ins.Invoke op method arguments))
-  unfolding linked_ins operand_of
+      → FitsOperand app (linked_ins rows (ins.Invoke op method arguments)) (operand_of rows (naming_of (ins.Invoke op method arguments)))
+  unfolding linked_ins
   call-fits op method arguments sound = sound.arguments ∙ ap (λ (n : ℕ). (if is_static_call op then 0 else 1) + n) (sym (method-same method sound.named))
 
-  ins-fits : (i : Ins) → IsSoundIns file i → FitsOperand app (linked_ins rows i) (operand_of rows i)
-  unfolding linked_ins operand_of
-  ins-fits ins.Nop h = tt
-  ins-fits (ins.Move op to from) h = tt
-  ins-fits (ins.MoveResult op to) h = tt
-  ins-fits (ins.MoveException to) h = tt
-  ins-fits ins.ReturnVoid h = tt
-  ins-fits (ins.Return op from) h = tt
-  ins-fits (ins.Const op to value) h = tt
-  ins-fits (ins.ConstString op to string) h = tt
-  ins-fits (ins.ConstClass to kind) h = tt
-  ins-fits (ins.Monitor op object) h = tt
-  ins-fits (ins.CheckCast object kind) h = tt
-  ins-fits (ins.InstanceOf to object kind) h = tt
-  ins-fits (ins.ArrayLength to array) h = tt
-  ins-fits (ins.NewInstance to kind) h = tt
-  ins-fits (ins.NewArray to size kind) h = tt
-  ins-fits (ins.FilledNewArray op kind arguments) h = tt
-  ins-fits (ins.FillArrayData array offset) h = tt
-  ins-fits (ins.Throw object) h = tt
-  ins-fits (ins.Goto op offset) h = tt
-  ins-fits (ins.Switch op value offset) h = tt
-  ins-fits (ins.Compare op to left right) h = tt
-  ins-fits (ins.IfPair op left right offset) h = tt
-  ins-fits (ins.IfZero op value offset) h = tt
-  ins-fits (ins.ArrayGet op to array index) h = tt
-  ins-fits (ins.ArrayPut op value array index) h = tt
-  ins-fits (ins.FieldGet op to object field) h = tt
-  ins-fits (ins.FieldPut op value object field) h = tt
-  ins-fits (ins.StaticGet op to field) h = tt
-  ins-fits (ins.StaticPut op value field) h = tt
+  ins-fits : (i : Ins) → IsSoundIns file i → FitsOperand app (linked_ins rows i) (operand_of rows (naming_of i))
+  unfolding linked_ins
   ins-fits (ins.Invoke op method arguments) h = call-fits op method arguments h
-  ins-fits (ins.Unary op to from) h = tt
-  ins-fits (ins.Binary op to left right) h = tt
-  ins-fits (ins.BinaryLiteral op to from value) h = tt
+  ins-fits other h = tt
 
   places-fit : (places : List Place) → All (λ (place : Place). IsSoundIns file place.ins) places → (i : ℕ) (own : Ins) (operand : Operand)
       → ins_of (slice_get (map (linked_place rows) places) i) ≡ Some own
-      → slice_get (map (λ (place : Place). operand_of rows place.ins) places) i ≡ Some operand
+      → slice_get (map (λ (place : Place). operand_of rows (naming_of place.ins)) places) i ≡ Some operand
       → FitsOperand app own operand
   places-fit [] all i own operand at named = absurd (let no : ⊥ = cc in no)
   places-fit (p ∷ ps) all zero own operand at named =
       let is : linked_ins rows p.ins ≡ own = cc in
-      let names : operand_of rows p.ins ≡ operand = cc in
+      let names : operand_of rows (naming_of p.ins) ≡ operand = cc in
       subst (λ (i : Ins). FitsOperand app i operand) is (subst (λ (o : Operand). FitsOperand app (linked_ins rows p.ins) o) names
       (ins-fits p.ins (all 0 p (omega arith))))
   places-fit (p ∷ ps) all (suc i) own operand at named = places-fit ps (All-tail (λ (place : Place). IsSoundIns file place.ins) p ps all) i own operand at named

@@ -10,77 +10,16 @@ use Rattle.dalvik.specs.Registers.{registers_of}
 use Rattle.dalvik.specs.Body.{IsBody, IsSoundPlace, IsSuccessorCount}
 use Rattle.app_rows.specs.Linked.{Rows, linked_ins, linked_place}
 
+-- both compute at each instruction
 registers-linked : (rows : Rows) (i : Ins) → registers_of (linked_ins rows i) ≡ registers_of i
 unfolding linked_ins registers_of
 registers-linked rows ins.Nop = refl
-registers-linked rows (ins.Move op to from) = refl
-registers-linked rows (ins.MoveResult op to) = refl
-registers-linked rows (ins.MoveException to) = refl
-registers-linked rows ins.ReturnVoid = refl
-registers-linked rows (ins.Return op from) = refl
-registers-linked rows (ins.Const op to value) = refl
-registers-linked rows (ins.ConstString op to string) = refl
-registers-linked rows (ins.ConstClass to kind) = refl
-registers-linked rows (ins.Monitor op object) = refl
-registers-linked rows (ins.CheckCast object kind) = refl
-registers-linked rows (ins.InstanceOf to object kind) = refl
-registers-linked rows (ins.ArrayLength to array) = refl
-registers-linked rows (ins.NewInstance to kind) = refl
-registers-linked rows (ins.NewArray to size kind) = refl
-registers-linked rows (ins.FilledNewArray op kind arguments) = refl
-registers-linked rows (ins.FillArrayData array offset) = refl
-registers-linked rows (ins.Throw object) = refl
-registers-linked rows (ins.Goto op offset) = refl
-registers-linked rows (ins.Switch op value offset) = refl
-registers-linked rows (ins.Compare op to left right) = refl
-registers-linked rows (ins.IfPair op left right offset) = refl
-registers-linked rows (ins.IfZero op value offset) = refl
-registers-linked rows (ins.ArrayGet op to array index) = refl
-registers-linked rows (ins.ArrayPut op value array index) = refl
-registers-linked rows (ins.FieldGet op to object field) = refl
-registers-linked rows (ins.FieldPut op value object field) = refl
-registers-linked rows (ins.StaticGet op to field) = refl
-registers-linked rows (ins.StaticPut op value field) = refl
-registers-linked rows (ins.Invoke op method arguments) = refl
-registers-linked rows (ins.Unary op to from) = refl
-registers-linked rows (ins.Binary op to left right) = refl
-registers-linked rows (ins.BinaryLiteral op to from value) = refl
+registers-linked rows other = refl
 
 count-linked : (rows : Rows) (i : Ins) (n : ℕ) → IsSuccessorCount i n → IsSuccessorCount (linked_ins rows i) n
 unfolding linked_ins
 count-linked rows ins.Nop n h = h
-count-linked rows (ins.Move op to from) n h = h
-count-linked rows (ins.MoveResult op to) n h = h
-count-linked rows (ins.MoveException to) n h = h
-count-linked rows ins.ReturnVoid n h = h
-count-linked rows (ins.Return op from) n h = h
-count-linked rows (ins.Const op to value) n h = h
-count-linked rows (ins.ConstString op to string) n h = h
-count-linked rows (ins.ConstClass to kind) n h = h
-count-linked rows (ins.Monitor op object) n h = h
-count-linked rows (ins.CheckCast object kind) n h = h
-count-linked rows (ins.InstanceOf to object kind) n h = h
-count-linked rows (ins.ArrayLength to array) n h = h
-count-linked rows (ins.NewInstance to kind) n h = h
-count-linked rows (ins.NewArray to size kind) n h = h
-count-linked rows (ins.FilledNewArray op kind arguments) n h = h
-count-linked rows (ins.FillArrayData array offset) n h = h
-count-linked rows (ins.Throw object) n h = h
-count-linked rows (ins.Goto op offset) n h = h
-count-linked rows (ins.Switch op value offset) n h = h
-count-linked rows (ins.Compare op to left right) n h = h
-count-linked rows (ins.IfPair op left right offset) n h = h
-count-linked rows (ins.IfZero op value offset) n h = h
-count-linked rows (ins.ArrayGet op to array index) n h = h
-count-linked rows (ins.ArrayPut op value array index) n h = h
-count-linked rows (ins.FieldGet op to object field) n h = h
-count-linked rows (ins.FieldPut op value object field) n h = h
-count-linked rows (ins.StaticGet op to field) n h = h
-count-linked rows (ins.StaticPut op value field) n h = h
-count-linked rows (ins.Invoke op method arguments) n h = h
-count-linked rows (ins.Unary op to from) n h = h
-count-linked rows (ins.Binary op to left right) n h = h
-count-linked rows (ins.BinaryLiteral op to from value) n h = h
+count-linked rows other n h = h
 
 place-linked : (rows : Rows) (registers count : ℕ) (place : Place) → IsSoundPlace registers count place → IsSoundPlace registers count (linked_place rows place)
 place-linked rows registers count place h = record {

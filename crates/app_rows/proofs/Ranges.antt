@@ -17,14 +17,17 @@ use Rattle.app_model.specs.declared.rows.MethodRow.{MethodRow}
 use Rattle.app_model.specs.declared.rows.Named.{Named}
 use Rattle.app_model.specs.declared.rows.NamedField.{NamedField}
 use Rattle.dalvik.specs.Body.{BodyRows}
+use Rattle.dalvik.specs.declared.naming.Naming.{Naming}
+use Rattle.dalvik.specs.declared.naming.Naming.TheVariants as naming
+use Rattle.dalvik.specs.Naming.{naming_of}
 use Rattle.app_model.specs.Parts.{AppParts}
-use Rattle.app_model.specs.Sound.{IsType, IsName, IsProto, IsProtoRow, IsClassRow, IsMethodRow, IsFieldRow, IsOperand, kind_of, AreInRange}
+use Rattle.app_model.specs.Sound.{IsType, IsName, IsProto, IsProtoRow, IsClassRow, IsMethodRow, IsFieldRow, IsOperand, AreInRange}
 use Rattle.app_model.specs.Words.{no_body, places_of, place_at, ins_at, ins_of}
 use Rattle.dex_file.specs.declared.parts.FileCode.{FileCode}
 use Rattle.dex_file.specs.declared.parts.FileField.{FileField}
 use Rattle.dex_file.specs.declared.parts.FileMethod.{FileMethod}
 use Rattle.dex_file.specs.Content.{ProtoContent, ClassContent, FileContent}
-use Rattle.dex_file.specs.Sound.{IsSoundProto, IsSoundField, IsSoundMethod, IsSoundIns, IsSoundCode, IsSoundMember, IsSoundClass, IsSoundFile}
+use Rattle.dex_file.specs.Sound.{IsThere, IsSoundProto, IsSoundField, IsSoundMethod, IsSoundIns, IsSoundCode, IsSoundMember, IsSoundClass, IsSoundFile}
 use Rattle.app_rows.specs.Numbers.{Seen, seen_in, number_in, with_new, string_at, type_texts, type_numbers, types_in, protos_of, proto_numbers, numbers_of}
 use Rattle.app_rows.specs.Linked.{Rows, Members, no_members, with_field, with_fields, with_method, with_methods, with_name, with_class, with_file, members_in, rows_of, app_of, linked, linked_ins, linked_place, linked_body, operand_of, operands_of, proto_row, type_no, type_at, method_at, field_at, named, named_field, class_row, field_row, method_row}
 use Rattle.app_rows.proofs.Once.{kept_fold, put, files_each}
@@ -103,7 +106,7 @@ record IsFieldBelow (app : AppParts) (n : ℕ) (field : FieldRow) : Type 0 where
 
 -- the type that an instruction names is in the table
 record HasKind (app : AppParts) (own : Ins) : Type 0 where
-  in_table : (t : ℕ) → kind_of own ≡ Some t → t < length app.types
+  in_table : (t : ℕ) → naming_of own ≡ naming.Kind t → t < length app.types
 
 abbrev HasKinds : AppParts → BodyRows → Type 0
 HasKinds app body = All (λ (place : Place). HasKind app place.ins) body.places
@@ -162,80 +165,23 @@ module _ (seen : Seen) (all : Members) (file : FileContent) (has : HasRowsOf see
 
 -- what a file adds is in range
 module _ (app : AppParts) (file : FileContent) (rows : Rows) (within : AreRowsIn app file rows) where
-  kind_there : (kind t : ℕ) → kind < length file.types → Some (slice_index rows.types kind) ≡ Some t → t < length app.types
+  kind_there : (kind t : ℕ) → kind < length file.types → naming.Kind (slice_index rows.types kind) ≡ naming.Kind t → t < length app.types
   kind_there kind t there is = let same : slice_index rows.types kind ≡ t = cc in subst (λ n. n < length app.types) same (within.types kind there)
 
-  kind_in : (own : Ins) → IsSoundIns file own → (t : ℕ) → kind_of (linked_ins rows own) ≡ Some t → t < length app.types
+  kind_in : (own : Ins) → IsSoundIns file own → (t : ℕ) → naming_of (linked_ins rows own) ≡ naming.Kind t → t < length app.types
   unfolding linked_ins
-  kind_in ins.Nop there t is = absurd (let no : ⊥ = cc in no)
-  kind_in (ins.Move op to from) there t is = absurd (let no : ⊥ = cc in no)
-  kind_in (ins.MoveResult op to) there t is = absurd (let no : ⊥ = cc in no)
-  kind_in (ins.MoveException to) there t is = absurd (let no : ⊥ = cc in no)
-  kind_in ins.ReturnVoid there t is = absurd (let no : ⊥ = cc in no)
-  kind_in (ins.Return op from) there t is = absurd (let no : ⊥ = cc in no)
-  kind_in (ins.Const op to value) there t is = absurd (let no : ⊥ = cc in no)
-  kind_in (ins.ConstString op to string) there t is = absurd (let no : ⊥ = cc in no)
   kind_in (ins.ConstClass to kind) there t is = kind_there kind t there.named is
-  kind_in (ins.Monitor op object) there t is = absurd (let no : ⊥ = cc in no)
   kind_in (ins.CheckCast object kind) there t is = kind_there kind t there.named is
   kind_in (ins.InstanceOf to object kind) there t is = kind_there kind t there.named is
-  kind_in (ins.ArrayLength to array) there t is = absurd (let no : ⊥ = cc in no)
   kind_in (ins.NewInstance to kind) there t is = kind_there kind t there.named is
   kind_in (ins.NewArray to size kind) there t is = kind_there kind t there.named is
   kind_in (ins.FilledNewArray op kind arguments) there t is = kind_there kind t there.named is
-  kind_in (ins.FillArrayData array offset) there t is = absurd (let no : ⊥ = cc in no)
-  kind_in (ins.Throw object) there t is = absurd (let no : ⊥ = cc in no)
-  kind_in (ins.Goto op offset) there t is = absurd (let no : ⊥ = cc in no)
-  kind_in (ins.Switch op value offset) there t is = absurd (let no : ⊥ = cc in no)
-  kind_in (ins.Compare op to left right) there t is = absurd (let no : ⊥ = cc in no)
-  kind_in (ins.IfPair op left right offset) there t is = absurd (let no : ⊥ = cc in no)
-  kind_in (ins.IfZero op value offset) there t is = absurd (let no : ⊥ = cc in no)
-  kind_in (ins.ArrayGet op to array index) there t is = absurd (let no : ⊥ = cc in no)
-  kind_in (ins.ArrayPut op value array index) there t is = absurd (let no : ⊥ = cc in no)
-  kind_in (ins.FieldGet op to object field) there t is = absurd (let no : ⊥ = cc in no)
-  kind_in (ins.FieldPut op value object field) there t is = absurd (let no : ⊥ = cc in no)
-  kind_in (ins.StaticGet op to field) there t is = absurd (let no : ⊥ = cc in no)
-  kind_in (ins.StaticPut op value field) there t is = absurd (let no : ⊥ = cc in no)
-  kind_in (ins.Invoke op method arguments) there t is = absurd (let no : ⊥ = cc in no)
-  kind_in (ins.Unary op to from) there t is = absurd (let no : ⊥ = cc in no)
-  kind_in (ins.Binary op to left right) there t is = absurd (let no : ⊥ = cc in no)
-  kind_in (ins.BinaryLiteral op to from value) there t is = absurd (let no : ⊥ = cc in no)
+  kind_in other there t is = absurd (let no : ⊥ = cc in no)
 
-  operand_in : (own : Ins) → IsSoundIns file own → IsOperand app (operand_of rows own)
-  unfolding operand_of
-  operand_in ins.Nop there = tt
-  operand_in (ins.Move op to from) there = tt
-  operand_in (ins.MoveResult op to) there = tt
-  operand_in (ins.MoveException to) there = tt
-  operand_in ins.ReturnVoid there = tt
-  operand_in (ins.Return op from) there = tt
-  operand_in (ins.Const op to value) there = tt
-  operand_in (ins.ConstString op to string) there = tt
-  operand_in (ins.ConstClass to kind) there = tt
-  operand_in (ins.Monitor op object) there = tt
-  operand_in (ins.CheckCast object kind) there = tt
-  operand_in (ins.InstanceOf to object kind) there = tt
-  operand_in (ins.ArrayLength to array) there = tt
-  operand_in (ins.NewInstance to kind) there = tt
-  operand_in (ins.NewArray to size kind) there = tt
-  operand_in (ins.FilledNewArray op kind arguments) there = tt
-  operand_in (ins.FillArrayData array offset) there = tt
-  operand_in (ins.Throw object) there = tt
-  operand_in (ins.Goto op offset) there = tt
-  operand_in (ins.Switch op value offset) there = tt
-  operand_in (ins.Compare op to left right) there = tt
-  operand_in (ins.IfPair op left right offset) there = tt
-  operand_in (ins.IfZero op value offset) there = tt
-  operand_in (ins.ArrayGet op to array index) there = tt
-  operand_in (ins.ArrayPut op value array index) there = tt
-  operand_in (ins.FieldGet op to object field) there = within.fields field there.named
-  operand_in (ins.FieldPut op value object field) there = within.fields field there.named
-  operand_in (ins.StaticGet op to field) there = within.fields field there.named
-  operand_in (ins.StaticPut op value field) there = within.fields field there.named
-  operand_in (ins.Invoke op method arguments) there = within.methods method there.named
-  operand_in (ins.Unary op to from) there = tt
-  operand_in (ins.Binary op to left right) there = tt
-  operand_in (ins.BinaryLiteral op to from value) there = tt
+  operand_in : (own : Naming) → IsThere file own → IsOperand app (operand_of rows own)
+  operand_in (naming.Field field) there = within.fields field there
+  operand_in (naming.Method method) there = within.methods method there
+  operand_in other there = tt
 
   kinds_in : (code : Option FileCode) → ((own : FileCode) → code ≡ Some own → IsSoundCode file own) → HasKinds app (linked_body rows code)
   kinds_in None sound = λ k d lt. absurd (omega arith)
@@ -246,8 +192,8 @@ module _ (app : AppParts) (file : FileContent) (rows : Rows) (within : AreRowsIn
   operands_in : (code : Option FileCode) → ((own : FileCode) → code ≡ Some own → IsSoundCode file own) → All (IsOperand app) (operands_of rows code)
   operands_in None sound = λ k d lt. absurd (omega arith)
   operands_in (Some own) sound =
-      All-map (IsOperand app) (λ (place : Place). operand_of rows place.ins) own.body.places
-      (λ k d lt. operand_in (get_or own.body.places k d).ins ((sound own refl).each k d lt))
+      All-map (IsOperand app) (λ (place : Place). operand_of rows (naming_of place.ins)) own.body.places
+      (λ k d lt. operand_in (naming_of (get_or own.body.places k d).ins) ((sound own refl).each k d lt).named)
 
   -- with a class that is open: its number is below the number of classes
   abbrev IsOpen : ℕ → Members → Type 0
@@ -383,16 +329,16 @@ protos_ranged files all fit =
 
 -- the instruction that is read
 ins_kind : (app : AppParts) (places : List Place) (i : ℕ) (found : Option Place) → slice_get places i ≡ found
-    → All (λ (place : Place). HasKind app place.ins) places → (own : Ins) (t : ℕ) → ins_of found ≡ Some own → kind_of own ≡ Some t → t < length app.types
+    → All (λ (place : Place). HasKind app place.ins) places → (own : Ins) (t : ℕ) → ins_of found ≡ Some own → naming_of own ≡ naming.Kind t → t < length app.types
 ins_kind app places i None at each own t is kind = absurd (let no : ⊥ = cc in no)
 ins_kind app places i (Some place) at each own t is kind =
     let same : place.ins ≡ own = cc in
     let of : HasKind app place.ins =
     subst (λ (p : Place). HasKind app p.ins) (get_or_from_slice_get places i place place at) (each i place (slice_get_within places i place at)) in
-    of.in_table t (ap kind_of same ∙ kind)
+    of.in_table t (ap naming_of same ∙ kind)
 
 kinds_ranged : (app : AppParts) → All (HasKinds app) app.code
-    → (m i : ℕ) (own : Ins) (t : ℕ) → ins_at app m i ≡ Some own → kind_of own ≡ Some t → t < length app.types
+    → (m i : ℕ) (own : Ins) (t : ℕ) → ins_at app m i ≡ Some own → naming_of own ≡ naming.Kind t → t < length app.types
 unfolding places_of place_at
 kinds_ranged app each m i own t is kind =
     let body = get_or app.code m no_body in

@@ -12,6 +12,7 @@ use Rattle.dex_file.specs.declared.parts.FileField.{FileField}
 use Rattle.dex_file.specs.declared.parts.FileMethod.{FileMethod}
 use Rattle.dex_file.specs.Content.{ClassContent, FileContent}
 use Rattle.app_rows.specs.Numbers.{Seen, seen_in}
+use Rattle.dalvik.specs.Naming.{naming_of}
 use Rattle.app_rows.specs.Linked.{Rows, Members, no_members, with_field, with_fields, with_method, with_methods, with_name, with_class, with_file, members_in, rows_of, app_of, linked, linked_place, linked_body, operand_of, operands_of, proto_row, class_row, field_row, method_row}
 use Rattle.dex_file.specs.Sizes.{members_of}
 use Rattle.app_rows.specs.Small.{IsSmall, AreSmall}
@@ -53,7 +54,7 @@ sized-field rows class c n x field h = record {
 
 entries : (rows : Rows) (code : Option FileCode) → length (operands_of rows code) ≡ length (linked_body rows code).places
 entries rows None = refl
-entries rows (Some code) = length-map code.body.places (λ (place : Place). operand_of rows place.ins) ∙ sym (length-map code.body.places (linked_place rows))
+entries rows (Some code) = length-map code.body.places (λ (place : Place). operand_of rows (naming_of place.ins)) ∙ sym (length-map code.body.places (linked_place rows))
 
 sized-method : (rows : Rows) (class c n : ℕ) (x : Members) (method : FileMethod) → IsSized x c n → IsSized (with_method rows class x method) c (n + 1)
 sized-method rows class c n x method h = record {

@@ -8,7 +8,9 @@ use Rattle.ns_base.specs.declared.rows.FieldNo.{FieldNo}
 use Rattle.dex_tables.specs.declared.tables.FieldId.{FieldId}
 use Rattle.dex_tables.specs.declared.tables.MethodId.{MethodId}
 use Rattle.dalvik.specs.declared.ins.Ins.{Ins}
-use Rattle.dalvik.specs.declared.ins.Ins.TheVariants as ins
+use Rattle.dalvik.specs.declared.naming.Naming.{Naming}
+use Rattle.dalvik.specs.declared.naming.Naming.TheVariants as naming
+use Rattle.dalvik.specs.Naming.{naming_of, with_kind}
 use Rattle.dalvik.specs.declared.body.Place.{Place}
 use Rattle.app_model.specs.declared.rows.FieldRow.{FieldRow}
 use Rattle.app_model.specs.declared.rows.MethodRow.{MethodRow}
@@ -106,15 +108,14 @@ method_row rows class method =
       ins = ins_of method.code;
     }
 
--- an instruction, with the application's number for its type; its string, field and method stay rows of the file
+-- with the application's number for the type that is named
+abbrev pub with_number : Rows → Naming → Ins → Ins
+with_number rows (naming.Kind kind) own = with_kind (slice_index rows.types kind) own
+with_number rows other own = own
+
+-- an instruction of the application: its type has the application's number; its string, field and method stay rows of the file
 unfoldable pub linked_ins : Rows → Ins → Ins
-linked_ins rows (ins.ConstClass to kind) = ins.ConstClass to (slice_index rows.types kind)
-linked_ins rows (ins.CheckCast object kind) = ins.CheckCast object (slice_index rows.types kind)
-linked_ins rows (ins.InstanceOf to object kind) = ins.InstanceOf to object (slice_index rows.types kind)
-linked_ins rows (ins.NewInstance to kind) = ins.NewInstance to (slice_index rows.types kind)
-linked_ins rows (ins.NewArray to size kind) = ins.NewArray to size (slice_index rows.types kind)
-linked_ins rows (ins.FilledNewArray op kind arguments) = ins.FilledNewArray op (slice_index rows.types kind) arguments
-linked_ins rows other = other
+linked_ins rows own = with_number rows (naming_of own) own
 
 abbrev pub linked_place : Rows → Place → Place
 linked_place rows place = record {
@@ -131,17 +132,14 @@ linked_body rows None = no_body
 linked_body rows (Some code) = record { registers = code.body.registers; places = map (linked_place rows) code.body.places }
 
 -- what an instruction names
-unfoldable pub operand_of : Rows → Ins → Operand
-operand_of rows (ins.FieldGet op to object field) = operand.Access (field_at rows field)
-operand_of rows (ins.FieldPut op value object field) = operand.Access (field_at rows field)
-operand_of rows (ins.StaticGet op to field) = operand.Access (field_at rows field)
-operand_of rows (ins.StaticPut op value field) = operand.Access (field_at rows field)
-operand_of rows (ins.Invoke op method arguments) = operand.Invoke (method_at rows method)
+abbrev pub operand_of : Rows → Naming → Operand
+operand_of rows (naming.Field field) = operand.Access (field_at rows field)
+operand_of rows (naming.Method method) = operand.Invoke (method_at rows method)
 operand_of rows other = operand.Plain
 
 abbrev pub operands_of : Rows → Option FileCode → List Operand
 operands_of rows None = []
-operands_of rows (Some code) = map (λ (place : Place). operand_of rows place.ins) code.body.places
+operands_of rows (Some code) = map (λ (place : Place). operand_of rows (naming_of place.ins)) code.body.places
 
 -- classes and their members so far
 pub record Members : Type 0 where

@@ -1,11 +1,12 @@
 //! The code of a method by the numbers of the application.
 ghost use Rattle.std.specs.Prelude.{◌≡◌, map, IfOk};
+ghost use Rattle.dalvik.specs.Naming.{naming_of};
 ghost use Rattle.app_rows.specs.Linked.{linked_ins, linked_place, linked_body, operand_of, operands_of};
 
 use crate::numbers::number_at;
 use crate::rows::FileRows;
 use app_model::Operand;
-use dalvik::{Body, Ins, Place};
+use dalvik::{Body, Ins, Naming, Place};
 use dex_file::FileCode;
 use std::alloc::{AllocError, Global};
 
@@ -13,34 +14,8 @@ use std::alloc::{AllocError, Global};
 fn linked_ins(rows: &FileRows, ins: Ins) -> Ins
     ensures { result ≡ linked_ins rows.now ins }
 {
-    match ins {
-        Ins::ConstClass { to, kind } => Ins::ConstClass {
-            to,
-            kind: number_at(&rows.types, kind),
-        },
-        Ins::CheckCast { object, kind } => Ins::CheckCast {
-            object,
-            kind: number_at(&rows.types, kind),
-        },
-        Ins::InstanceOf { to, object, kind } => Ins::InstanceOf {
-            to,
-            object,
-            kind: number_at(&rows.types, kind),
-        },
-        Ins::NewInstance { to, kind } => Ins::NewInstance {
-            to,
-            kind: number_at(&rows.types, kind),
-        },
-        Ins::NewArray { to, size, kind } => Ins::NewArray {
-            to,
-            size,
-            kind: number_at(&rows.types, kind),
-        },
-        Ins::FilledNewArray { op, kind, args } => Ins::FilledNewArray {
-            op,
-            kind: number_at(&rows.types, kind),
-            args,
-        },
+    match ins.named() {
+        Naming::Kind(kind) => ins.with_kind(number_at(&rows.types, kind)),
         _ => ins,
     }
 }
@@ -74,27 +49,23 @@ pub fn link_body(alloc: Global, rows: &FileRows, code: Option<FileCode>) -> Body
     }
 }
 
-#[tactic(auto, unfolding(crate::specs::Linked::operand_of))]
-fn operand_of(rows: &FileRows, ins: Ins) -> Operand
-    ensures { result ≡ operand_of rows.now ins }
+fn operand_of(rows: &FileRows, named: Naming) -> Operand
+    ensures { result ≡ operand_of rows.now named }
 {
-    match ins {
-        Ins::FieldGet { field, .. } => Operand::Access(rows.field(field)),
-        Ins::FieldPut { field, .. } => Operand::Access(rows.field(field)),
-        Ins::StaticGet { field, .. } => Operand::Access(rows.field(field)),
-        Ins::StaticPut { field, .. } => Operand::Access(rows.field(field)),
-        Ins::Invoke { method, .. } => Operand::Invoke(rows.method(method)),
+    match named {
+        Naming::Field(field) => Operand::Access(rows.field(field)),
+        Naming::Method(method) => Operand::Invoke(rows.method(method)),
         _ => Operand::Plain,
     }
 }
 
 fn operands_in(alloc: Global, rows: &FileRows, body: &Body) -> Result<Vec<Operand>, AllocError>
-    ensures { IfOk result (λ operands. operands.items ≡ map (λ place. operand_of rows.now place.ins) body.now.places) }
+    ensures { IfOk result (λ operands. operands.items ≡ map (λ place. operand_of rows.now (naming_of place.ins)) body.now.places) }
 {
     let mut operands = Vec::with_capacity(alloc, body.len())?;
     for i in 0..body.len() {
         let place = body.place(i);
-        operands.push(operand_of(rows, place.ins))?;
+        operands.push(operand_of(rows, place.ins.named()))?;
     }
     Ok(operands)
 }

@@ -1,4 +1,5 @@
 -- What an instruction names in the id tables.
+use Rattle.std.specs.Prelude.{ℕ}
 use Rattle.dalvik.specs.declared.ins.Ins.{Ins}
 use Rattle.dalvik.specs.declared.ins.Ins.TheVariants as ins
 use Rattle.dalvik.specs.declared.naming.Naming.{Naming}
@@ -18,3 +19,13 @@ naming_of (ins.StaticGet op to field) = Field field
 naming_of (ins.StaticPut op value field) = Field field
 naming_of (ins.Invoke op method arguments) = Method method
 naming_of _ = Nothing
+
+-- the instruction with a type in place of its own, where it names one
+abbrev pub with_kind : ℕ → Ins → Ins
+with_kind new (ins.ConstClass to kind) = ins.ConstClass to new
+with_kind new (ins.CheckCast object kind) = ins.CheckCast object new
+with_kind new (ins.InstanceOf to object kind) = ins.InstanceOf to object new
+with_kind new (ins.NewInstance to kind) = ins.NewInstance to new
+with_kind new (ins.NewArray to size kind) = ins.NewArray to size new
+with_kind new (ins.FilledNewArray op kind arguments) = ins.FilledNewArray op new arguments
+with_kind new other = other

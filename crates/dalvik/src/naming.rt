@@ -1,6 +1,6 @@
 //! What an instruction names in the id tables.
 ghost use Rattle.std.specs.Prelude.{◌≡◌};
-ghost use Rattle.dalvik.specs.Naming.{naming_of};
+ghost use Rattle.dalvik.specs.Naming.{naming_of, with_kind};
 
 use crate::ins::Ins;
 
@@ -33,6 +33,21 @@ impl Ins {
             | Ins::StaticPut { field, .. } => Naming::Field(field),
             Ins::Invoke { method, .. } => Naming::Method(method),
             _ => Naming::Nothing,
+        }
+    }
+
+    /// The instruction with this type in place of its own; one that names no type as it is.
+    pub fn with_kind(self, kind: u32) -> Ins
+        ensures { result ≡ with_kind kind self }
+    {
+        match self {
+            Ins::ConstClass { to, .. } => Ins::ConstClass { to, kind },
+            Ins::CheckCast { object, .. } => Ins::CheckCast { object, kind },
+            Ins::InstanceOf { to, object, .. } => Ins::InstanceOf { to, object, kind },
+            Ins::NewInstance { to, .. } => Ins::NewInstance { to, kind },
+            Ins::NewArray { to, size, .. } => Ins::NewArray { to, size, kind },
+            Ins::FilledNewArray { op, args, .. } => Ins::FilledNewArray { op, kind, args },
+            _ => self,
         }
     }
 }

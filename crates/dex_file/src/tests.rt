@@ -160,6 +160,24 @@ fn the_class_is_read_back(rt: HostRuntime) -> Result<(), Fail> {
     Ok(())
 }
 
+// The sums of the file whose class has both methods in its list of virtual ones.
+const BOTH_SUMS: [u8; 24] = [
+    250, 83, 99, 87, 99, 124, 26, 155, 201, 214, 68, 113, 184, 137, 9, 59, 145, 62, 77, 244, 39,
+    252, 4, 252,
+];
+
+#[test]
+fn a_list_of_methods_with_code_is_read(rt: HostRuntime) -> Result<(), Fail> {
+    let parts = read(rt.alloc(), &BOTH_SUMS, &[(440, 0), (441, 2)])
+        .ok()
+        .ok_or("the file is sound")?;
+    let class = parts.classes.first().ok_or("there is a class")?;
+    assert!(rt; class.directs.is_empty());
+    assert_eq!(rt; class.virtuals.len(), 2);
+    assert!(rt; class.virtuals.iter().all(|method| method.code.is_some()));
+    Ok(())
+}
+
 // Bytes put elsewhere, the sums of the file with them, and its first fault.
 const FAULTS: [([u8; 24], &[(usize, u8)], FileFault); 10] = [
     (

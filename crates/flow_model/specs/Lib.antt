@@ -3,6 +3,7 @@ pub mod Images
 pub mod Status
 pub mod Passes
 pub mod Scope
+pub mod TagFlow
 pub mod Subject
 pub mod Rules
 pub mod Places

@@ -1,9 +1,8 @@
 -- With which statuses of lock field l an instruction goes on, and with which it throws, by the tags before it and the
 -- status before it. Statuses are masks; l is the lock under solution.
-use Rattle.std.specs.Prelude.{ℕ, ◌+◌, ◌==◌, Bool, true, false, if◌then◌else◌, List, [], ◌∷◌, slice_index, bit_or}
+use Rattle.std.specs.Prelude.{ℕ, ◌==◌, Bool, true, false, if◌then◌else◌, List, bit_or}
 use Rattle.ns_base.specs.declared.rows.LockNo.{LockNo}
 use Rattle.dalvik.specs.Calls.{receiver_of, argument_of}
-use Rattle.dalvik.specs.declared.ins.Args.{Args}
 use Rattle.app_model.specs.Masks.{in_mask}
 use Rattle.app_model.specs.declared.tag.Tag.{Tag}
 use Rattle.app_model.specs.declared.tag.Tag.TheVariants.{Bot, Zero, Solid, Held, Any, Field, New, Mixed}
@@ -100,12 +99,26 @@ slot_passes l k stored s = if is_slot l k then stored_passes stored s else only 
 abbrev pub if_passes : (passed image : ℕ) → ℕ
 if_passes passed image = if passed == 0 then 0 else image
 
--- ---- calls. The receiver of a static call is no value that may be null
-abbrev pub receiver_nullness : ℕ → By → List Tag → Args → Nullness
-receiver_nullness l Static row arguments = NotNull
-receiver_nullness l Virtual row arguments = nullness l (tag_in row (receiver_of arguments))
-receiver_nullness l Super row arguments = nullness l (tag_in row (receiver_of arguments))
-receiver_nullness l Direct row arguments = nullness l (tag_in row (receiver_of arguments))
+-- ---- calls: all but static ones have a receiver, and every lock call has one
+abbrev pub is_instance : By → Bool
+is_instance Static = false
+is_instance Virtual = true
+is_instance Super = true
+is_instance Direct = true
+
+abbrev pub has_receiver : LockUse → By → Bool
+has_receiver Plain by = is_instance by
+has_receiver Make by = is_instance by
+has_receiver Wrong by = is_instance by
+has_receiver Acquire by = true
+has_receiver Release by = true
+has_receiver IsHeld by = true
+has_receiver Mode by = true
+
+-- where there is no receiver, nothing is null
+abbrev pub receiver_nullness : (there : Bool) → ℕ → Tag → Nullness
+receiver_nullness true l receiver = nullness l receiver
+receiver_nullness false l receiver = NotNull
 
 -- a lock call by a column of the status table, which counts where its receiver is what l holds
 abbrev pub lock_call_passes : (ℕ → ℕ) → Nullness → ℕ → ℕ
@@ -164,7 +177,7 @@ passes l (Check when) row outside k s = passes_by l when row s
 passes l (Throw object) row outside k s = 0
 passes l (Return answer) row outside k s = 0
 passes l (Call by usage arguments gives) row outside k s =
-    call_passes usage outside (receiver_nullness l by row arguments) (tag_in row (argument_of arguments)) s
+    call_passes usage outside (receiver_nullness (has_receiver usage by) l (tag_in row (receiver_of arguments))) (tag_in row (argument_of arguments)) s
 
 abbrev pub throws : ℕ → Act → List Tag → (outside : Bool) → (s : ℕ) → ℕ
 throws l Go row outside s = 0
@@ -180,14 +193,12 @@ throws l (Check when) row outside s = throws_by l when row s
 throws l (Throw object) row outside s = only s
 throws l (Return answer) row outside s = 0
 throws l (Call by usage arguments gives) row outside s =
-    call_throws_with usage outside (receiver_nullness l by row arguments) (tag_in row (argument_of arguments)) s
+    call_throws_with usage outside (receiver_nullness (has_receiver usage by) l (tag_in row (receiver_of arguments))) (tag_in row (argument_of arguments)) s
 
 -- whether the receiver lets a call pass at a status, so that a callee is entered
-abbrev pub is_open_call : ℕ → By → List Tag → Args → (s : ℕ) → Bool
-is_open_call l by row arguments s = in_mask (passes_null (receiver_nullness l by row arguments) s) s
-
 abbrev pub is_open_act : ℕ → Act → List Tag → (s : ℕ) → Bool
-is_open_act l (Call by usage arguments gives) row s = is_open_call l by row arguments s
+is_open_act l (Call by usage arguments gives) row s =
+    in_mask (passes_null (receiver_nullness (has_receiver usage by) l (tag_in row (receiver_of arguments))) s) s
 is_open_act l act row s = false
 
 -- ---- an own operation of l: a lock call on what it holds, or a store to it

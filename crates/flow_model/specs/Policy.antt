@@ -1,14 +1,13 @@
 -- Violations of the exit policy: an exit of a component is reached while a lock that it answers for is held.
-use Rattle.std.specs.Prelude.{ℕ, ◌≡◌, ◌<◌, ◌⊎◌, Bool, true, false, List, ◌∷◌, Option, Some, length, AllPairs, Contains, ◌↔◌}
+use Rattle.std.specs.Prelude.{ℕ, ◌≡◌, ◌<◌, ◌⊎◌, Bool, true, false, List, ◌∷◌, Option, Some, AllPairs, Contains, ◌↔◌}
 use Rattle.app_model.specs.declared.component.Edge.{Edge}
 use Rattle.app_model.specs.declared.tag.Tag.{Tag}
 use Rattle.app_model.specs.declared.lock_use.LockUse.TheVariants.{Acquire}
-use Rattle.app_model.specs.Components.{edge_at, callback_at, exits_at}
+use Rattle.app_model.specs.Components.{edge_at, exits_at}
 use Rattle.act_model.specs.declared.act.Act.{Act}
 use Rattle.flow_model.specs.declared.policy.Violation.{Violation}
 use Rattle.act_model.specs.declared.act.Act.TheVariants.{Call}
 use Rattle.dalvik.specs.Calls.{receiver_of}
-use Rattle.act_model.specs.Acts.{act_at}
 use Rattle.act_model.specs.Changes.{tag_in}
 use Rattle.app_model.specs.Facts.{Fact, View}
 use Rattle.app_model.specs.Masks.{in_mask, is_held}

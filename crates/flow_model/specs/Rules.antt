@@ -53,7 +53,6 @@ pub data Starts (x : SubjectParts) (l : ℕ) : List Fact → Fact → Type 0 whe
   V3 : {c q s m : ℕ} {edge : Edge} (e : ℕ) → edge_at x.list c e ≡ Some edge → edge.from ≡ q → callback_at x.list c edge.callback ≡ Some m
       → Starts x l (View c q s ∷ []) (At m (entered x l c edge s) 0 (entered x l c edge s))
 
-
 -- here: one whose callback is outside by its clearing alone, another as its method returns
 pub data Carries (x : SubjectParts) (l c : ℕ) (edge : Edge) (s t : ℕ) : List Fact → Type 0 where
   outside : callback_at x.list c edge.callback ≡ None → t ≡ entered x l c edge s → Carries x l c edge s t []

@@ -1,7 +1,6 @@
 -- Tests of the scope rules on one instruction, by the tags before it.
 use Rattle.dalvik.specs.Calls.{args_len, arg_at}
 use Rattle.std.specs.Prelude.{ℕ, nat_le, Bool, true, false, not, ◌&&◌, ◌||◌, List, Option, Some, None}
-use Rattle.ns_base.specs.declared.rows.LockNo.{LockNo}
 use Rattle.app_model.specs.declared.tag.Tag.{Tag}
 use Rattle.app_model.specs.declared.tag.Tag.TheVariants.{Bot, Zero, Solid, Held, Any, Field, New, Mixed}
 use Rattle.dalvik.specs.declared.ins.Args.{Args}

@@ -4,11 +4,13 @@
 //! - `masks` applies them to sets of statuses.
 //! - `passes` follows the statuses through an act, where it goes on and where it throws.
 //! - `scope` tests an act by the rules of scope.
+//! - `instruction` asks both of an instruction of a subject.
 //! - `policy` has the violations of the exit policy.
 //!
 //! The flow rules and what they derive stand in `specs/` alone: `Derived`, `Subject`, `Rules`.
 #![tactic(auto)]
 
+mod instruction;
 mod masks;
 mod passes;
 mod policy;
@@ -16,6 +18,7 @@ mod scope;
 mod status;
 
 pub use act_model::join;
+pub use instruction::{opens, own_operation, pass, throws};
 pub use masks::{
     Branches, Outcome, after_acquire, after_is_held, after_mode, after_null, after_release,
     after_store, has_status, held_test, image, null_test,

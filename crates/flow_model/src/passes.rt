@@ -1,5 +1,6 @@
 //! With which statuses of the lock under solution an instruction goes on, and with which it throws.
 ghost use Rattle.std.specs.Prelude.{◌≡◌, ◌<◌, ◌+◌, ◌==◌, Some, slice_index};
+ghost use Rattle.dalvik.specs.Calls as registers;
 ghost use Rattle.dalvik.specs.Calls.{argument_of};
 ghost use Rattle.app_model.specs.Masks.{in_mask};
 ghost use Rattle.act_model.specs.Changes.{tag_in};
@@ -39,14 +40,21 @@ pub fn pass_mask<R: Row>(lock: LockNo, act: &Act, row: &R, outside: bool, to: u3
         | Act::ReadSlot { throws, .. }
         | Act::Give { throws, .. }
         | Act::Check { throws } => passes_by(lock, throws, row, status),
-        Act::WriteSlot {
-            from,
-            slot,
+        Act::WriteSlot { from, slot, throws } => write_passes(
+            lock,
             throws,
-        } => write_passes(lock, throws, row, (from, slot), status),
+            row,
+            (from, slot),
+            status,
+        ),
         Act::Throw { .. } | Act::Return { .. } => 0,
-        Act::Call { by, usage, args, .. } => {
-            let receiver = receiver_nullness(lock, by, row, &args);
+        Act::Call {
+            by,
+            usage,
+            args,
+            ..
+        } => {
+            let receiver = receiver_of(lock, (usage, by), row, &args);
             call_passes(usage, outside, receiver, argument_tag(row, &args), status)
         }
     }
@@ -64,8 +72,13 @@ pub fn throw_mask<R: Row>(lock: LockNo, act: &Act, row: &R, outside: bool, statu
         | Act::Give { throws, .. }
         | Act::Check { throws } => throws_by(lock, throws, row, status),
         Act::Throw { .. } => only(status),
-        Act::Call { by, usage, args, .. } => {
-            let receiver = receiver_nullness(lock, by, row, &args);
+        Act::Call {
+            by,
+            usage,
+            args,
+            ..
+        } => {
+            let receiver = receiver_of(lock, (usage, by), row, &args);
             call_throws(usage, outside, receiver, argument_tag(row, &args), status)
         }
         Act::Go
@@ -83,8 +96,13 @@ pub fn is_open<R: Row>(lock: LockNo, act: &Act, row: &R, status: u8) -> bool
     ensures { result ≡ spec.is_open_act lock.0 act.now (R.tags row.now) status }
 {
     match *act {
-        Act::Call { by, args, .. } => {
-            let receiver = receiver_nullness(lock, by, row, &args);
+        Act::Call {
+            by,
+            usage,
+            args,
+            ..
+        } => {
+            let receiver = receiver_of(lock, (usage, by), row, &args);
             has_status(passes_null(receiver, status), status as usize)
         }
         _ => false,
@@ -280,12 +298,33 @@ fn stored_passes(stored: Tag, s: u8) -> u8
 
 // ---- calls
 
-fn receiver_nullness<R: Row>(lock: LockNo, by: By, row: &R, args: &Args) -> Nullness
-    ensures { result ≡ spec.receiver_nullness lock.0 by (R.tags row.now) args.now }
+// What the tag of a call's receiver says of null; nothing is null where there is no receiver.
+fn receiver_of<R: Row>(lock: LockNo, call: (LockUse, By), row: &R, args: &Args) -> Nullness
+    ensures { result ≡ spec.receiver_nullness (spec.has_receiver call.0 call.1) lock.0 (tag_in (R.tags row.now) (registers.receiver_of args.now)) }
+{
+    let (usage, by) = call;
+    if has_receiver(usage, by) {
+        null_of(lock, receiver_tag(row, args))
+    } else {
+        Nullness::NotNull
+    }
+}
+
+fn has_receiver(usage: LockUse, by: By) -> bool
+    ensures { result ≡ spec.has_receiver usage by }
+{
+    match usage {
+        LockUse::Plain | LockUse::Make | LockUse::Wrong => is_instance(by),
+        LockUse::Acquire | LockUse::Release | LockUse::IsHeld | LockUse::Mode => true,
+    }
+}
+
+fn is_instance(by: By) -> bool
+    ensures { result ≡ spec.is_instance by }
 {
     match by {
-        By::Static => Nullness::NotNull,
-        By::Virtual | By::Super | By::Direct => null_of(lock, receiver_tag(row, args)),
+        By::Static => false,
+        By::Virtual | By::Super | By::Direct => true,
     }
 }
 
@@ -322,11 +361,7 @@ fn passes_outside(outside: bool, receiver: Nullness, s: u8) -> u8
     requires { s < 8 }
     ensures { result ≡ spec.passes_outside outside receiver s }
 {
-    if outside {
-        passes_null(receiver, s)
-    } else {
-        0
-    }
+    if outside { passes_null(receiver, s) } else { 0 }
 }
 
 fn throws_outside(outside: bool, receiver: Nullness, s: u8) -> u8
@@ -398,11 +433,7 @@ fn only_if(there: bool, s: u8) -> u8
     requires { s < 8 }
     ensures { result ≡ spec.only_if there s }
 {
-    if there {
-        only(s)
-    } else {
-        0
-    }
+    if there { only(s) } else { 0 }
 }
 
 // The mask of one status, where another mask has it.

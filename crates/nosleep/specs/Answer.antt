@@ -16,7 +16,7 @@ use Rattle.app_link.specs.declared.link_fault.LinkFault.{LinkFault}
 use Rattle.app_link.specs.declared.link_fault.LinkFault.TheVariants as link
 use Rattle.app_link.specs.Linking.{IsLinked}
 use Rattle.app_model.specs.Parts.{AppParts}
-use Rattle.flow_model.specs.Subject.{SubjectParts}
+use Rattle.app_model.specs.Subject.{SubjectParts}
 use Rattle.flow_model.specs.declared.policy.Violation.{Violation}
 use Rattle.flow_model.specs.Policy.{AreViolations}
 use Rattle.straight_code.specs.Path.{path_subject}

@@ -222,19 +222,29 @@ fn faults_of_the_sink_are_answered(rt: HostRuntime) -> Result<(), Fail> {
     Ok(())
 }
 
+// Reads of at most four bytes, one after the other: the file, the place, and what comes. The second one is at the place
+// where the first one stands in another file.
+static READS: [(&str, u64, &[u8]); 5] = [
+    ("f", 0, b"hell"),
+    ("g", 4, b"ds"),
+    ("f", 4, b"o"),
+    ("f", 5, b""),
+    ("f", 1, b"ello"),
+];
+
 #[test]
 fn real_files_are_read_in_pieces(rt: HostRuntime) -> Result<(), Fail> {
     fs::write(&rt, "f", "hello")?;
+    fs::write(&rt, "g", "worlds")?;
     let mut shelf = FileShelf::new(rt.alloc(), &rt);
     let mut into = *b"....";
-    assert_eq!(rt; shelf.read("f", 0, &mut into), Ok(4));
-    assert_eq!(rt; into.as_slice(), b"hell".as_slice());
-    assert_eq!(rt; shelf.read("f", 4, &mut into), Ok(1));
-    assert_eq!(rt; shelf.read("f", 5, &mut into), Ok(0));
-    assert_eq!(rt; shelf.read("f", 1, &mut into), Ok(4));
-    assert_eq!(rt; into.as_slice(), b"ello".as_slice());
+    for (name, at, bytes) in READS.iter() {
+        assert_eq!(rt; shelf.read(name, *at, &mut into), Ok(bytes.len()));
+        assert!(rt; into.starts_with(bytes), "{name} {at}");
+    }
     assert_eq!(rt; shelf.read("absent", 0, &mut into), Err(Failed));
     fs::remove_file(&rt, "f")?;
+    fs::remove_file(&rt, "g")?;
     Ok(())
 }
 

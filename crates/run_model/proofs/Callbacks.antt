@@ -6,19 +6,21 @@ use Rattle.std.proofs.lemmas.List.{get_or-set_same, length-set}
 use Rattle.app_model.specs.declared.component.Edge.{Edge}
 use Rattle.app_model.specs.Components.{ComponentParts, edges_of, edge_of, edge_at, callback_at, exits_at}
 use Rattle.flow_model.specs.Derived.{Set, IsClosed}
-use Rattle.flow_model.specs.Entries.{entry_row}
+use Rattle.act_model.specs.Entries.{callback_row}
 use Rattle.app_model.specs.Facts.{View, At, Ret}
-use Rattle.flow_model.specs.Policy.{AnswersFor, MeetsPolicy}
+use Rattle.flow_model.specs.Policy.{MeetsPolicy}
 use Rattle.app_model.specs.Masks.{in_mask, is_held}
-use Rattle.flow_model.specs.Rules.{Inner, Between, V3, V4, by_method, entered, cleared}
-use Rattle.flow_model.specs.Subject.{SubjectParts, status_masks}
+use Rattle.flow_model.specs.Rules.{Carries, Inner, Between, V3, V4, by_method, clears, entered}
+use Rattle.flow_model.specs.Status.{reset}
+use Rattle.app_model.specs.Subject.{SubjectParts, answers_at, row_at, slot_count}
+use Rattle.flow_model.specs.Subject.{status_masks}
 use Rattle.run_model.specs.Heaps.{Value, Heap, status, with_cleared, cleared_cells, is_lost, counter_at, cell, status_of}
-use Rattle.run_model.specs.Machine.{Callback, Running, edge_starts, starts, begins, is_cleared, entered_frame, entries_of, this_of}
+use Rattle.run_model.specs.Machine.{Callback, Running, edge_starts, starts, begins, entered_frame, entries_of, this_of}
 use Rattle.run_model.specs.Relation.{AreTagged, AreViews, Each, ExitsWell, IsCallback, IsEnded, IsHeap, IsIdle, IsInside}
 use Rattle.run_model.specs.Tagged.{IsEntered, IsTagged}
 use Rattle.flow_model.proofs.TestLaws.{none_some}
 use Rattle.run_model.proofs.Members.{each_append, each_if, each_map}
-use Rattle.run_model.proofs.Rows.{cleared_ok}
+use Rattle.run_model.proofs.Rows.{reset_ok}
 use Rattle.run_model.proofs.Heaps.{emptied_status, kept_status, held_above, status_is, cleared_cell, uncleared_cell, cleared_heap}
 use Rattle.run_model.proofs.Registers.{tagged_under}
 use Rattle.run_model.proofs.Entries.{entries_ok}
@@ -42,43 +44,43 @@ if_false : (b : Bool) (s t : ℕ) → b ≡ false → (if b then s else t) ≡ t
 if_false true s t e = cc
 if_false false s t e = refl
 
-entered_status : (x : SubjectParts) (own c : ℕ) (edge : Edge) (n : ℕ) (h : Heap) → IsHeap n h → status (with_cleared h (is_cleared x c edge)) own ≡ entered x own c edge (status h own)
+entered_status : (x : SubjectParts) (own c : ℕ) (edge : Edge) (n : ℕ) (h : Heap) → IsHeap n h → status (with_cleared h (clears x c edge)) own ≡ entered x own c edge (status h own)
 entered_status x own c edge n h ok =
     ⊎_elim
     (λ yes_cleared.
-    emptied_status h (cleared_cells (is_cleared x c edge) 0 h.cells) own (cleared_cell h (is_cleared x c edge) own yes_cleared)
+    emptied_status h (cleared_cells (clears x c edge) 0 h.cells) own (cleared_cell h (clears x c edge) own yes_cleared)
     ∙ ap (λ b. status_of b None) (held_above h own n ok)
-    ∙ sym (cleared_ok (is_lost h own) (counter_at h (cell h own)))
-    ∙ ap cleared (sym (status_is h own))
-    ∙ sym (if_true (is_cleared x c edge own) (cleared (status h own)) (status h own) yes_cleared))
+    ∙ sym (reset_ok (is_lost h own) (counter_at h (cell h own)))
+    ∙ ap reset (sym (status_is h own))
+    ∙ sym (if_true (clears x c edge own) (reset (status h own)) (status h own) yes_cleared))
     (λ not_cleared.
-    kept_status h (cleared_cells (is_cleared x c edge) 0 h.cells) own (uncleared_cell h (is_cleared x c edge) own not_cleared)
-    ∙ sym (if_false (is_cleared x c edge own) (cleared (status h own)) (status h own) not_cleared))
-    (cases_Bool (is_cleared x c edge own))
+    kept_status h (cleared_cells (clears x c edge) 0 h.cells) own (uncleared_cell h (clears x c edge) own not_cleared)
+    ∙ sym (if_false (clears x c edge own) (reset (status h own)) (status h own) not_cleared))
+    (cases_Bool (clears x c edge own))
 
 -- ---- the starts of callbacks
 module _ (x : SubjectParts) (own : ℕ) (set : Set) (tg : IsTagged x) (cl : IsClosed (Inner x own (status_masks x own)) set) (states : List ℕ) (h : Heap) (idle : IsIdle x own set states h) where
-  begin_one : (c e : ℕ) (edge : Edge) (m : ℕ) → edge_at x.list c e ≡ Some edge → edge.from ≡ slice_index states c → callback_at x.list c edge.callback ≡ Some m → (values : List Value) → AreTagged (entry_row (slice_get x.app.methods m)) values (length h.locks) (length h.locks) (with_cleared h (is_cleared x c edge))
-      → IsInside x own set (Running (record { states = states; component = c; edge = e }) (with_cleared h (is_cleared x c edge)) (entered_frame m values ∷ []))
+  begin_one : (c e : ℕ) (edge : Edge) (m : ℕ) → edge_at x.list c e ≡ Some edge → edge.from ≡ slice_index states c → callback_at x.list c edge.callback ≡ Some m → (values : List Value) → AreTagged (callback_row x.app (slice_get x.app.methods m)) values (length h.locks) (length h.locks) (with_cleared h (clears x c edge))
+      → IsInside x own set (Running (record { states = states; component = c; edge = e }) (with_cleared h (clears x c edge)) (entered_frame m values ∷ []))
   begin_one c e edge m there from method values tagged =
       let lt = component_there x.list c e edge there in
       let is_method : IsEntered x m = record { component = c; callback = edge.callback; is = method } in
       let view = idle.views.each c lt in
       let entry = cl.by _ _ (inr (V3 e there from method)) (view, tt) in
-      let now = entered_status x own c edge (length x.app.locks) h idle.heap in
+      let now = entered_status x own c edge (slot_count x) h idle.heap in
       record {
         edge = edge;
         root = m;
         s0 = status h own;
         callback = record { views = idle.views; component = lt; there = there; from = from; method = method };
-        heap = cleared_heap h (is_cleared x c edge) (length x.app.locks) idle.heap;
+        heap = cleared_heap h (clears x c edge) (slot_count x) idle.heap;
         stack = record {
           e = entered x own c edge (status h own);
           lo = length h.locks;
           from = omega arith;
           entered = is_method;
           at = subst (λ s. set (At m (entered x own c edge (status h own)) 0 s) ≡ true) (sym now) entry;
-          registers = tagged_under _ values (length h.locks) (length h.locks) (with_cleared h (is_cleared x c edge)) tagged (x.tags m 0) (tg.entries m is_method);
+          registers = tagged_under _ values (length h.locks) (length h.locks) (with_cleared h (clears x c edge)) tagged (row_at x m 0) (tg.entries m is_method);
           below = (refl, refl);
         };
       }
@@ -86,9 +88,9 @@ module _ (x : SubjectParts) (own : ℕ) (set : Set) (tg : IsTagged x) (cl : IsCl
   begins_ok : (c e : ℕ) (edge : Edge) → edge_at x.list c e ≡ Some edge → edge.from ≡ slice_index states c → (o : Option ℕ) → callback_at x.list c edge.callback ≡ o → Each (IsInside x own set) (begins x states h c e edge o)
   begins_ok c e edge there from None none = absurd (let m = tg.has_callbacks c e edge there in none_some m.0 _ none m.1)
   begins_ok c e edge there from (Some m) method =
-      each_map (λ values. AreTagged (entry_row (slice_get x.app.methods m)) values (length h.locks) (length h.locks) (with_cleared h (is_cleared x c edge))) (IsInside x own set) _
+      each_map (λ values. AreTagged (callback_row x.app (slice_get x.app.methods m)) values (length h.locks) (length h.locks) (with_cleared h (clears x c edge))) (IsInside x own set) _
       (begin_one c e edge m there from method) (entries_of x.app (this_of x.app (slice_get x.list c)) (slice_get x.app.methods m))
-      (entries_ok (length h.locks) (length h.locks) (with_cleared h (is_cleared x c edge)) x.app (slice_get x.list c) (slice_get x.app.methods m))
+      (entries_ok (length h.locks) (length h.locks) (with_cleared h (clears x c edge)) x.app (slice_get x.list c) (slice_get x.app.methods m))
 
   edge_starts_ok : (c e : ℕ) (edges : List Edge) → ((i : ℕ) (edge : Edge) → slice_get edges i ≡ Some edge → edge_at x.list c (e + i) ≡ Some edge) → Each (IsInside x own set) (edge_starts x states h c e edges)
   edge_starts_ok c e [] at = tt
@@ -113,14 +115,14 @@ module _ (x : SubjectParts) (own : ℕ) (set : Set) (tg : IsTagged x) (cl : IsCl
   idle_ok = starts_ok 0 x.list (λ i. ap (slice_get x.list) (let z : i ≡ 0 + i = omega arith in z))
 
 -- ---- the end of a callback
-module _ (x : SubjectParts) (own : ℕ) (set : Set) (tg : IsTagged x) (cl : IsClosed (Between x own) set) where
+module _ (x : SubjectParts) (own : ℕ) (set : Set) (tg : IsTagged x) (cl : IsClosed (Between x (Carries x own)) set) where
   -- what its component may be in; there is no other one
   end_views : (before : Callback) (edge : Edge) (root s0 t : ℕ) → IsCallback x set before edge root s0 → set (Ret root (entered x own before.component edge s0) t) ≡ true → AreViews x set (set_at before.states before.component edge.to) t
   end_views before edge root s0 t cb ret =
       let within : before.component < length before.states = omega (arith, cb.views.count, cb.component) in
       let to : slice_index (set_at before.states before.component edge.to) before.component ≡ edge.to = get_or-set_same before.states before.component edge.to 0 within in
       let own_view = cb.views.each before.component cb.component in
-      let next : set (View before.component edge.to t) ≡ true = cl.by _ _ (V4 before.edge cb.there cb.from refl (by_method root cb.method)) (own_view, (ret, tt)) in
+      let next : set (View before.component edge.to t) ≡ true = cl.by _ _ (V4 before.edge root cb.there cb.from refl cb.method (by_method root cb.method)) (own_view, (ret, tt)) in
       record {
         count = length-set before.states before.component edge.to ∙ cb.views.count;
         each = λ d lt.
@@ -129,7 +131,7 @@ module _ (x : SubjectParts) (own : ℕ) (set : Set) (tg : IsTagged x) (cl : IsCl
             (subst (λ q. set (View before.component q t) ≡ true) (sym to) next);
       }
 
-  pub end_ok : own < length x.app.locks → MeetsPolicy x own set → (at : Callback) (h : Heap) → IsEnded x own set at h → IsIdle x own set at.states h × ExitsWell x own at h
+  pub end_ok : own < slot_count x → MeetsPolicy x own set → (at : Callback) (h : Heap) → IsEnded x own set at h → IsIdle x own set at.states h × ExitsWell x own at h
   end_ok lt mp at h d =
       let cb = d.callback in
       let views = end_views d.before d.edge d.root d.s0 (status h own) cb d.ret in
@@ -146,16 +148,16 @@ module _ (x : SubjectParts) (own : ℕ) (set : Set) (tg : IsTagged x) (cl : IsCl
         number = d.before.edge;
         edge = d.edge;
         needs = Ret d.root (entered x own d.before.component d.edge d.s0) (status h own) ∷ [];
-        lock = lt;
+        slot = lt;
         there = there;
         from = cb.from;
         callback = refl;
-        carries = by_method d.root cb.method;
+        carried = by_method d.root cb.method;
         holds = (own_view, (d.ret, tt));
         exit = yes_exit';
         held = bad;
         answers = answers;
       }))) in (
         record { views = subst (λ states. AreViews x set states (status h own)) (sym d.states) views; heap = d.heap },
-        λ other is yes_exit answers. exit other (subst₂ (λ c e. edge_at x.list c e ≡ Some other) (sym d.same_component) (sym d.same_edge) is) (subst (λ c. in_mask (exits_at x.list c) other.callback ≡ true) (sym d.same_component) yes_exit) (subst (λ c. AnswersFor x c own) (sym d.same_component) answers),
+        λ other is yes_exit answers. exit other (subst₂ (λ c e. edge_at x.list c e ≡ Some other) (sym d.same_component) (sym d.same_edge) is) (subst (λ c. in_mask (exits_at x.list c) other.callback ≡ true) (sym d.same_component) yes_exit) (subst (λ c. answers_at x c own ≡ true) (sym d.same_component) answers),
       )

@@ -8,21 +8,27 @@ use Rattle.app_model.specs.declared.tag.Tag.TheVariants as tag
 use Rattle.app_model.specs.declared.lock_use.LockUse.{LockUse}
 use Rattle.app_model.specs.declared.lock_use.LockUse.TheVariants.{Plain, Make, Acquire, Release, IsHeld, Mode, Wrong}
 use Rattle.app_model.specs.Words.{named_at}
-use Rattle.flow_model.specs.declared.act.Gives.{Gives}
-use Rattle.flow_model.specs.declared.act.Act.{Act}
-use Rattle.flow_model.specs.declared.act.Act.TheVariants.{Call}
+use Rattle.act_model.specs.declared.act.By.{By}
+use Rattle.act_model.specs.declared.act.By.TheVariants.{Virtual, Super, Direct, Static}
+use Rattle.act_model.specs.declared.act.Gives.{Gives}
+use Rattle.flow_model.specs.declared.passes.Nullness.{Nullness}
+use Rattle.flow_model.specs.declared.passes.Nullness.TheVariants.{NotNull}
+use Rattle.flow_model.specs.Status.{only}
+use Rattle.flow_model.proofs.MaskLaws.{IsIn-or_right}
+use Rattle.act_model.specs.declared.act.Act.{Act}
+use Rattle.act_model.specs.declared.act.Act.TheVariants.{Call}
 use Rattle.dalvik.specs.Calls.{receiver_of, argument_of, arg_at, args_len}
-use Rattle.flow_model.specs.Acts.{act_at}
-use Rattle.flow_model.specs.Changes.{tag_in, call_change, given_tag}
+use Rattle.act_model.specs.Acts.{act_at}
+use Rattle.act_model.specs.Changes.{tag_in, call_change, given_tag}
 use Rattle.flow_model.specs.Derived.{Set}
-use Rattle.flow_model.specs.Entries.{site_at}
+use Rattle.app_model.specs.Sites.{site_at}
 use Rattle.app_model.specs.Masks.{in_mask, any_below}
-use Rattle.flow_model.specs.Passes.{is_lock_call, passes_null_test, throws}
+use Rattle.flow_model.specs.Passes.{has_receiver, is_instance, is_lock_call, passes_null, passes_outside, receiver_nullness, throws, throws_outside}
 use Rattle.flow_model.specs.Scope.{call_escapes, escapes_as_receiver, is_escape, may_be_lock, passes_lock}
-use Rattle.flow_model.specs.Subject.{SubjectParts}
+use Rattle.app_model.specs.Subject.{SubjectParts, slot_count}
 use Rattle.run_model.specs.Heaps.{Value, Zero, Nonzero, Object, LockRef, Heap, Lock, cell, is_owned, lock_at, new_lock, status, with_new}
 use Rattle.run_model.specs.Types.{may_receive}
-use Rattle.run_model.specs.Machine.{Frame, Over, Stuck, Escape, register, is_lock_in, gives_lock, receiver_in, lacks_argument, answers, answers_of, throws_from, lock_call_options, full_lock_call_options, operation_options, answer_options, outside_options, call_options}
+use Rattle.run_model.specs.Machine.{Frame, Over, Stuck, Escape, register, is_lock_in, gives_lock, receiver_in, lacks_argument, answers, answers_of, throws_from, lock_call_options, full_lock_call_options, operation_options, answer_options, object_options, outside_answers, outside_options, receiver_options, call_options}
 use Rattle.run_model.specs.Relation.{AreTagged, Each, IsHeap, IsInside, IsNew, Means}
 use Rattle.flow_model.proofs.TestLaws.{some_below, below_some}
 use Rattle.run_model.proofs.Members.{each_append, each_if, each_map}
@@ -30,9 +36,9 @@ use Rattle.run_model.proofs.Heaps.{cell_same, grown_at, grown_last, grown_status
 use Rattle.run_model.proofs.Meanings.{KeepsBut, nowhere, cell_of_lock, field_receiver, held_same, may_be, means_kept}
 use Rattle.run_model.proofs.Registers.{tagged_map, tagged_read}
 use Rattle.run_model.proofs.Entries.{answers_ok}
-use Rattle.run_model.proofs.Masks.{passes_object, outside_throws_object, zero_throws}
+use Rattle.run_model.proofs.Masks.{passes_full, outside_throws_full, zero_throws}
 use Rattle.run_model.proofs.LockCalls.{answer_ok, argument_tag, operation_ok, receiver_tag, thrown_ok}
-use Rattle.run_model.proofs.Steps.{Premises, Top, row_of, throws_ok}
+use Rattle.run_model.proofs.Steps.{Premises, Top, only_status, out_of, row_of, throws_ok}
 
 any_weaker : (f g : ℕ → Bool) (n : ℕ) → ((k : ℕ) → f k ≡ true → g k ≡ true) → any_below f n ≡ true → any_below g n ≡ true
 any_weaker f g n w h = let r = some_below f n h in below_some g n r.0 r.1 (w r.0 r.2)
@@ -41,6 +47,12 @@ any_weaker f g n w h = let r = some_below f n h in below_some g n r.0 r.1 (w r.0
 lock_tag : (row : List Tag) (values : List Value) (lo hi : ℕ) (h : Heap) → AreTagged row values lo hi h → (r : ℕ) (o : Option Value) → slice_get values r ≡ o → is_lock_in o ≡ true → may_be_lock (tag_in row r) ≡ true
 lock_tag row values lo hi h tagged r None there is = absurd (false≢true is)
 lock_tag row values lo hi h tagged r (Some v) there is = may_be (tag_in row r) v lo hi h (tagged_read row values lo hi h tagged r v there) is
+
+-- an argument that is a lock may be one by its tag
+pub given_by_tag : (row : List Tag) (f : Frame) (lo hi : ℕ) (h : Heap) → AreTagged row f.registers lo hi h → (arguments : Args) (from : ℕ) → gives_lock f arguments from ≡ true → passes_lock row arguments from ≡ true
+given_by_tag row f lo hi h tagged arguments from g =
+    any_weaker (λ k. nat_le from k && is_lock_in (register f (arg_at arguments k))) (λ k. nat_le from k && may_be_lock (tag_in row (arg_at arguments k))) (args_len arguments)
+    (λ k both. (let b = and_parts (nat_le from k) (is_lock_in (register f (arg_at arguments k))) both in and_from (nat_le from k) (may_be_lock (tag_in row (arg_at arguments k))) b.0 (lock_tag row f.registers lo hi h tagged (arg_at arguments k) (register f (arg_at arguments k)) refl b.1))) g
 
 not_empty : (b : Bool) (o : Option Value) (v : Value) → (if b then None else o) ≡ Some v → o ≡ Some v
 not_empty true o v e = absurd (let none : None ≡ Some v = e in cc)
@@ -62,21 +74,66 @@ escapes_outside : (b : Bool) (row : List Tag) (arguments : Args) → b ≡ false
 escapes_outside true row arguments e no_escape = cc
 escapes_outside false row arguments e no_escape = no_escape
 
+-- every lock call has a receiver, and so has every call of an instance
+lock_receiver : (usage : LockUse) (by : By) → is_lock_call usage ≡ true → has_receiver usage by ≡ true
+lock_receiver Acquire by is = refl
+lock_receiver Release by is = refl
+lock_receiver IsHeld by is = refl
+lock_receiver Mode by is = refl
+lock_receiver Plain by is = cc
+lock_receiver Make by is = cc
+lock_receiver Wrong by is = cc
+
+instance_receiver : (usage : LockUse) (by : By) → is_instance by ≡ true → has_receiver usage by ≡ true
+instance_receiver Acquire by is = refl
+instance_receiver Release by is = refl
+instance_receiver IsHeld by is = refl
+instance_receiver Mode by is = refl
+instance_receiver Plain by is = is
+instance_receiver Make by is = is
+instance_receiver Wrong by is = is
+
 module _ (x : SubjectParts) (own : ℕ) (set_of : Set) (p : Premises x own set_of) where
-  -- what a call that goes outside answers; its receiver is an object
-  module _ (h : Heap) (ok : IsHeap (length x.app.locks) h) (f : Frame) (rest : List Frame) (arguments : Args) (given : Gives) (t : Top x own set_of p h f rest) (type : Option ℕ) (m : Means (receiver_tag x own set_of p f arguments) (Object type) t.lo (length h.locks) h) where
-    object_mask : in_mask (passes_null_test own (receiver_tag x own set_of p f arguments) (status h own)) (status h own) ≡ true
-    object_mask = passes_object own t.lo (length h.locks) h (receiver_tag x own set_of p f arguments) type m
+  -- no null is called: the call passes, and throws by choice, where it leads outside
+  module _ (h : Heap) where
+    pub record IsFull (n : Nullness) : Type 0 where
+      pub passes : in_mask (passes_null n (status h own)) (status h own) ≡ true
+      pub throws : in_mask (throws_outside true n (status h own)) (status h own) ≡ true
 
-    plain_ok : act_at x.app f.method f.index ≡ Some (Call Plain arguments given) → Each (IsInside x own set_of) (map (answers x p.at h f rest) (answers_of x.app given))
-    plain_ok is =
-        each_map (λ v. Means (given_tag given) v t.lo (length h.locks) h) (IsInside x own set_of) (answers x p.at h f rest)
-        (λ v means. answer_ok x own set_of p h h f rest Plain arguments given v t is ok (omega arith) object_mask (thrown_ok x own set_of p h f rest Plain arguments given t) means) (answers_of x.app given) (answers_ok x.app given t.lo (length h.locks) h)
+    full_none : IsFull NotNull
+    full_none = record { passes = only_status h own; throws = IsIn-or_right 0 (only (status h own)) (status h own) (only_status h own) }
 
-    wrong_ok : act_at x.app f.method f.index ≡ Some (Call Wrong arguments given) → Each (IsInside x own set_of) (map (answers x p.at h f rest) (answers_of x.app given))
-    wrong_ok is =
+    full_object : (there : Bool) (q : Tag) (lo hi : ℕ) (type : Option ℕ) → Means q (Object type) lo hi h → IsFull (receiver_nullness there own q)
+    full_object true q lo hi type m = record { passes = passes_full own lo hi h q (Object type) refl m; throws = outside_throws_full own lo hi h q (Object type) refl m }
+    full_object false q lo hi type m = full_none
+
+    full_static : (usage : LockUse) (q : Tag) → is_lock_call usage ≡ false → IsFull (receiver_nullness (has_receiver usage Static) own q)
+    full_static Plain q off = full_none
+    full_static Make q off = full_none
+    full_static Wrong q off = full_none
+    full_static Acquire q off = cc
+    full_static Release q off = cc
+    full_static IsHeld q off = cc
+    full_static Mode q off = cc
+
+  -- what a call that goes outside answers, where no null is called
+  module _ (h : Heap) (ok : IsHeap (slot_count x) h) (f : Frame) (rest : List Frame) (by : By) (arguments : Args) (given : Gives) (t : Top x own set_of p h f rest) (out : out_of x own set_of p f ≡ true) where
+    abbrev pub nullness_of : LockUse → Nullness
+    nullness_of usage = receiver_nullness (has_receiver usage by) own (receiver_tag x own set_of p f arguments)
+
+    by_outside : (P : Bool → Type 0) → P true → P (out_of x own set_of p f)
+    by_outside P ok = subst P (sym out) ok
+
+    plain_ok : IsFull h (nullness_of Plain) → act_at x.app f.method f.index ≡ Some (Call by Plain arguments given) → Each (IsInside x own set_of) (map (answers x p.at h f rest) (answers_of x.app given))
+    plain_ok full is =
+        let mask = by_outside (λ (b : Bool). in_mask (passes_outside b (nullness_of Plain) (status h own)) (status h own) ≡ true) full.passes in
         each_map (λ v. Means (given_tag given) v t.lo (length h.locks) h) (IsInside x own set_of) (answers x p.at h f rest)
-        (λ v means. answer_ok x own set_of p h h f rest Wrong arguments given v t is ok (omega arith) object_mask (thrown_ok x own set_of p h f rest Wrong arguments given t) means) (answers_of x.app given) (answers_ok x.app given t.lo (length h.locks) h)
+        (λ v means. answer_ok x own set_of p h h f rest by Plain arguments given v t is ok (omega arith) mask (thrown_ok x own set_of p h f rest by Plain arguments given t) means) (answers_of x.app given) (answers_ok x.app given t.lo (length h.locks) h)
+
+    wrong_ok : IsFull h (nullness_of Wrong) → act_at x.app f.method f.index ≡ Some (Call by Wrong arguments given) → Each (IsInside x own set_of) (map (answers x p.at h f rest) (answers_of x.app given))
+    wrong_ok full is =
+        each_map (λ v. Means (given_tag given) v t.lo (length h.locks) h) (IsInside x own set_of) (answers x p.at h f rest)
+        (λ v means. answer_ok x own set_of p h h f rest by Wrong arguments given v t is ok (omega arith) full.passes (thrown_ok x own set_of p h f rest by Wrong arguments given t) means) (answers_of x.app given) (answers_ok x.app given t.lo (length h.locks) h)
 
     -- a new lock
     abbrev site : ℕ
@@ -99,62 +156,64 @@ module _ (x : SubjectParts) (own : ℕ) (set_of : Set) (p : Premises x own set_o
     made : IsNew site (LockRef (length h.locks)) t.lo (length grown.locks) grown
     made = record { i = length h.locks; is = refl; from = t.from; below = omega (arith, one_more); loose = ap (λ (y : Lock). y.owner) (grown_last h site); made = ap (λ (y : Lock). y.site) (grown_last h site) }
 
-    make_ok : act_at x.app f.method f.index ≡ Some (Call Make arguments given) → Each (IsInside x own set_of) (answer_options x p.at h f rest Make given)
-    make_ok is =
-        let same = grown_status h site (length x.app.locks) ok own in
-        let mask = subst (λ s. in_mask (passes_null_test own (receiver_tag x own set_of p f arguments) (status h own)) s ≡ true) (sym same) object_mask in
+    make_ok : IsFull h (nullness_of Make) → act_at x.app f.method f.index ≡ Some (Call by Make arguments given) → Each (IsInside x own set_of) (answer_options x p.at h f rest Make given)
+    make_ok full is =
+        let same = grown_status h site (slot_count x) ok own in
+        let mask = subst (λ s. in_mask (passes_null (nullness_of Make) (status h own)) s ≡ true) (sym same) full.passes in
         let tags = tagged_map (row_of x own set_of p f) f.registers t.lo (length h.locks) h t.registers (call_change Make (receiver_tag x own set_of p f arguments)) (length grown.locks) grown (means_kept t.lo (length h.locks) (length grown.locks) h grown make_keeps) in
-        (answer_ok x own set_of p h grown f rest Make arguments given (LockRef (length h.locks)) t is (grown_heap h site (length x.app.locks) ok) (omega (arith, one_more)) mask tags made, tt)
+        (answer_ok x own set_of p h grown f rest by Make arguments given (LockRef (length h.locks)) t is (grown_heap h site (slot_count x) ok) (omega (arith, one_more)) mask tags made, tt)
 
-    answer_options_ok : (usage : LockUse) → act_at x.app f.method f.index ≡ Some (Call usage arguments given) → Each (IsInside x own set_of) (answer_options x p.at h f rest usage given)
-    answer_options_ok Plain is = plain_ok is
-    answer_options_ok Wrong is = wrong_ok is
-    answer_options_ok Make is = make_ok is
-    answer_options_ok Acquire is = tt
-    answer_options_ok Release is = tt
-    answer_options_ok IsHeld is = tt
-    answer_options_ok Mode is = tt
+    answer_options_ok : (usage : LockUse) → IsFull h (nullness_of usage) → act_at x.app f.method f.index ≡ Some (Call by usage arguments given) → Each (IsInside x own set_of) (answer_options x p.at h f rest usage given)
+    answer_options_ok Plain full is = plain_ok full is
+    answer_options_ok Wrong full is = wrong_ok full is
+    answer_options_ok Make full is = make_ok full is
+    answer_options_ok Acquire full is = tt
+    answer_options_ok Release full is = tt
+    answer_options_ok IsHeld full is = tt
+    answer_options_ok Mode full is = tt
 
     -- and where it throws
-    object_throws : (usage : LockUse) → is_lock_call usage ≡ false → in_mask (throws own (Call usage arguments given) (row_of x own set_of p f) (status h own)) (status h own) ≡ true
-    object_throws Plain off = outside_throws_object own t.lo (length h.locks) h (receiver_tag x own set_of p f arguments) type m
-    object_throws Wrong off = outside_throws_object own t.lo (length h.locks) h (receiver_tag x own set_of p f arguments) type m
-    object_throws Make off = outside_throws_object own t.lo (length h.locks) h (receiver_tag x own set_of p f arguments) type m
-    object_throws Acquire off = cc
-    object_throws Release off = cc
-    object_throws IsHeld off = cc
-    object_throws Mode off = cc
+    full_throws : (usage : LockUse) → is_lock_call usage ≡ false → IsFull h (nullness_of usage) → in_mask (throws own (Call by usage arguments given) (row_of x own set_of p f) (out_of x own set_of p f) (status h own)) (status h own) ≡ true
+    full_throws Plain off full = by_outside (λ (b : Bool). in_mask (throws_outside b (nullness_of Plain) (status h own)) (status h own) ≡ true) full.throws
+    full_throws Wrong off full = full.throws
+    full_throws Make off full = full.throws
+    full_throws Acquire off full = cc
+    full_throws Release off full = cc
+    full_throws IsHeld off full = cc
+    full_throws Mode off full = cc
 
-    object_ok : (usage : LockUse) → is_lock_call usage ≡ false → act_at x.app f.method f.index ≡ Some (Call usage arguments given) → Each (IsInside x own set_of) (outside_options x p.at h f rest usage given (Some (Object type)))
-    object_ok usage off is =
-        each_if (IsInside x own set_of) (may_receive x.app type (named_at x.app f.method f.index)) (answer_options x p.at h f rest usage given ++ throws_from x p.at h (f ∷ rest)) (Over Stuck ∷ [])
-        (λ _. each_append (IsInside x own set_of) (answer_options x p.at h f rest usage given) (throws_from x p.at h (f ∷ rest)) (answer_options_ok usage is)
-        (throws_ok x own set_of p h ok f rest (Call usage arguments given) t is (object_throws usage off) (thrown_ok x own set_of p h f rest usage arguments given t)))
-        (λ _. (tt, tt))
+    pub outside_answers_ok : (usage : LockUse) → is_lock_call usage ≡ false → IsFull h (nullness_of usage) → act_at x.app f.method f.index ≡ Some (Call by usage arguments given) → Each (IsInside x own set_of) (outside_answers x p.at h f rest usage given)
+    outside_answers_ok usage off full is =
+        each_append (IsInside x own set_of) (answer_options x p.at h f rest usage given) (throws_from x p.at h (f ∷ rest)) (answer_options_ok usage full is)
+        (throws_ok x own set_of p h ok f rest (Call by usage arguments given) t is (full_throws usage off full) (thrown_ok x own set_of p h f rest by usage arguments given t))
 
-  module _ (h : Heap) (ok : IsHeap (length x.app.locks) h) (f : Frame) (rest : List Frame) (usage : LockUse) (arguments : Args) (given : Gives) (t : Top x own set_of p h f rest) (is : act_at x.app f.method f.index ≡ Some (Call usage arguments given)) where
+  module _ (h : Heap) (ok : IsHeap (slot_count x) h) (f : Frame) (rest : List Frame) (by : By) (usage : LockUse) (arguments : Args) (given : Gives) (t : Top x own set_of p h f rest) (is : act_at x.app f.method f.index ≡ Some (Call by usage arguments given)) where
     abbrev row : List Tag
     row = row_of x own set_of p f
 
     no_escape : call_escapes (is_lock_call usage) row arguments ≡ false
     no_escape = subst (λ (o : Option Act). is_escape o row ≡ false) is (p.tagged.no_escape f.method f.index t.entered)
 
-    -- an argument that is a lock may be one by its tag
     given_lock : (from : ℕ) → gives_lock f arguments from ≡ true → passes_lock row arguments from ≡ true
-    given_lock from g =
-        any_weaker (λ k. nat_le from k && is_lock_in (register f (arg_at arguments k))) (λ k. nat_le from k && may_be_lock (tag_in row (arg_at arguments k))) (args_len arguments)
-        (λ k both. (let b = and_parts (nat_le from k) (is_lock_in (register f (arg_at arguments k))) both in and_from (nat_le from k) (may_be_lock (tag_in row (arg_at arguments k))) b.0 (lock_tag row f.registers t.lo (length h.locks) h t.registers (arg_at arguments k) (register f (arg_at arguments k)) refl b.1))) g
+    given_lock from g = given_by_tag row f t.lo (length h.locks) h t.registers arguments from g
 
     receiver_means : (v : Value) → receiver_in f arguments ≡ Some v → Means (receiver_tag x own set_of p f arguments) v t.lo (length h.locks) h
     receiver_means v e = tagged_read row f.registers t.lo (length h.locks) h t.registers (receiver_of arguments) v (not_empty (args_len arguments == 0) (register f (receiver_of arguments)) v e)
 
+    -- the call leads outside, as every call does
+    out : out_of x own set_of p f ≡ true
+    out = p.tagged.outside f.method f.index by usage arguments given t.entered is
+
     -- a call on null
-    null_ok : receiver_in f arguments ≡ Some Zero → (usage ≡ Mode → (v : Value) × (register f (argument_of arguments) ≡ Some v)) → Each (IsInside x own set_of) (throws_from x p.at h (f ∷ rest))
-    null_ok e has =
-        throws_ok x own set_of p h ok f rest (Call usage arguments given) t is
-        (zero_throws own t.lo (length h.locks) h usage (receiver_tag x own set_of p f arguments) (argument_tag x own set_of p f arguments) (receiver_means Zero e)
-        (λ mode. (let a = has mode in (a.0, tagged_read row f.registers t.lo (length h.locks) h t.registers (argument_of arguments) a.0 a.1))))
-        (thrown_ok x own set_of p h f rest usage arguments given t)
+    null_ok : has_receiver usage by ≡ true → receiver_in f arguments ≡ Some Zero → (usage ≡ Mode → (v : Value) × (register f (argument_of arguments) ≡ Some v)) → Each (IsInside x own set_of) (throws_from x p.at h (f ∷ rest))
+    null_ok there e has =
+        let q = receiver_tag x own set_of p f arguments in
+        let a = argument_tag x own set_of p f arguments in
+        let mask = zero_throws own t.lo (length h.locks) h usage q a (receiver_means Zero e)
+        (λ mode. (let a = has mode in (a.0, tagged_read row f.registers t.lo (length h.locks) h t.registers (argument_of arguments) a.0 a.1))) in
+        throws_ok x own set_of p h ok f rest (Call by usage arguments given) t is
+        (rw (there, out) mask)
+        (thrown_ok x own set_of p h f rest by usage arguments given t)
 
     -- ---- lock calls
     lock_ok : is_lock_call usage ≡ true → (i : ℕ) → receiver_in f arguments ≡ Some (LockRef i) → Each (IsInside x own set_of) (if is_owned (lock_at h i).owner then operation_options x p.at h f rest usage arguments i else Over Escape ∷ [])
@@ -166,12 +225,12 @@ module _ (x : SubjectParts) (own : ℕ) (set_of : Set) (p : Premises x own set_o
         let c : cell h k.0 ≡ Some i = cell_of_lock (cell h k.0) i means_field in
         let owned : is_owned (lock_at h i).owner ≡ true = ap is_owned (ok.cell k.0 i c) in
         each_if (IsInside x own set_of) (is_owned (lock_at h i).owner) (operation_options x p.at h f rest usage arguments i) (Over Escape ∷ [])
-        (λ _. operation_ok x own set_of p h ok f rest arguments given t k i field.1 c usage is)
+        (λ _. operation_ok x own set_of p h ok f rest by arguments given t k i field.1 c usage is)
         (λ loose. absurd (false≢true (sym loose ∙ owned)))
 
     lock_call_ok : is_lock_call usage ≡ true → lacks_argument usage (register f (argument_of arguments)) ≡ false → (o : Option Value) → receiver_in f arguments ≡ o → Each (IsInside x own set_of) (lock_call_options x p.at h f rest usage arguments o)
     lock_call_ok yes_lock full None e = (tt, tt)
-    lock_call_ok yes_lock full (Some Zero) e = null_ok e (λ mode. has_argument (register f (argument_of arguments)) (subst (λ (u : LockUse). lacks_argument u (register f (argument_of arguments)) ≡ false) mode full))
+    lock_call_ok yes_lock full (Some Zero) e = null_ok (lock_receiver usage by yes_lock) e (λ mode. has_argument (register f (argument_of arguments)) (subst (λ (u : LockUse). lacks_argument u (register f (argument_of arguments)) ≡ false) mode full))
     lock_call_ok yes_lock full (Some Nonzero) e = (tt, tt)
     lock_call_ok yes_lock full (Some (Object type)) e = (tt, tt)
     lock_call_ok yes_lock full (Some (LockRef i)) e = lock_ok yes_lock i e
@@ -180,21 +239,40 @@ module _ (x : SubjectParts) (own : ℕ) (set_of : Set) (p : Premises x own set_o
     no_lock_argument : is_lock_call usage ≡ false → Mode ≡ usage → ⊥
     no_lock_argument off e = absurd (false≢true (sym off ∙ ap is_lock_call (sym e)))
 
-    outside_ok : is_lock_call usage ≡ false → (o : Option Value) → receiver_in f arguments ≡ o → Each (IsInside x own set_of) (outside_options x p.at h f rest usage given o)
-    outside_ok off None e = (tt, tt)
-    outside_ok off (Some Zero) e = null_ok e (λ mode. absurd (no_lock_argument off (sym mode)))
-    outside_ok off (Some Nonzero) e = (tt, tt)
-    outside_ok off (Some (LockRef i)) e = (tt, tt)
-    outside_ok off (Some (Object type)) e = object_ok h ok f rest arguments given t type (receiver_means (Object type) e) usage off is
+    answers_ok_if : IsFull h (receiver_nullness (has_receiver usage by) own (receiver_tag x own set_of p f arguments)) → is_lock_call usage ≡ false → Each (IsInside x own set_of) (outside_answers x p.at h f rest usage given)
+    answers_ok_if full off = outside_answers_ok h ok f rest by arguments given t out usage off full is
 
-    pub call_ok : Each (IsInside x own set_of) (call_options x p.at h f rest usage arguments given)
+    object_ok : (form : By) (type : Option ℕ) → Each (IsInside x own set_of) (outside_answers x p.at h f rest usage given) → Each (IsInside x own set_of) (object_options x p.at h f rest form type (outside_answers x p.at h f rest usage given))
+    object_ok Virtual type normal =
+        each_if (IsInside x own set_of) (may_receive x.app type (named_at x.app f.method f.index)) (outside_answers x p.at h f rest usage given) (Over Stuck ∷ []) (λ _. normal) (λ _. (tt, tt))
+    object_ok Super type normal = normal
+    object_ok Direct type normal = normal
+    object_ok Static type normal = normal
+
+    receiver_ok : is_lock_call usage ≡ false → has_receiver usage by ≡ true → (o : Option Value) → receiver_in f arguments ≡ o → Each (IsInside x own set_of) (receiver_options x p.at h f rest by o (outside_answers x p.at h f rest usage given))
+    receiver_ok off there None e = (tt, tt)
+    receiver_ok off there (Some Zero) e = null_ok there e (λ mode. absurd (no_lock_argument off (sym mode)))
+    receiver_ok off there (Some Nonzero) e = (tt, tt)
+    receiver_ok off there (Some (LockRef i)) e = (tt, tt)
+    receiver_ok off there (Some (Object type)) e =
+        object_ok by type (answers_ok_if (full_object h (has_receiver usage by) _ t.lo (length h.locks) type (receiver_means (Object type) e)) off)
+
+  outside_ok : (h : Heap) (ok : IsHeap (slot_count x) h) (f : Frame) (rest : List Frame) (by : By) (usage : LockUse) (arguments : Args) (given : Gives) (t : Top x own set_of p h f rest) → act_at x.app f.method f.index ≡ Some (Call by usage arguments given)
+      → is_lock_call usage ≡ false → Each (IsInside x own set_of) (outside_options x p.at h f rest by usage given (receiver_in f arguments))
+  outside_ok h ok f rest Static usage arguments given t is off = answers_ok_if h ok f rest Static usage arguments given t is (full_static h usage _ off) off
+  outside_ok h ok f rest Virtual usage arguments given t is off = receiver_ok h ok f rest Virtual usage arguments given t is off (instance_receiver usage Virtual refl) (receiver_in f arguments) refl
+  outside_ok h ok f rest Super usage arguments given t is off = receiver_ok h ok f rest Super usage arguments given t is off (instance_receiver usage Super refl) (receiver_in f arguments) refl
+  outside_ok h ok f rest Direct usage arguments given t is off = receiver_ok h ok f rest Direct usage arguments given t is off (instance_receiver usage Direct refl) (receiver_in f arguments) refl
+
+  module _ (h : Heap) (ok : IsHeap (slot_count x) h) (f : Frame) (rest : List Frame) (by : By) (usage : LockUse) (arguments : Args) (given : Gives) (t : Top x own set_of p h f rest) (is : act_at x.app f.method f.index ≡ Some (Call by usage arguments given)) where
+    pub call_ok : Each (IsInside x own set_of) (call_options x p.at h f rest by usage arguments given)
     call_ok =
-        each_if (IsInside x own set_of) (is_lock_call usage) (if gives_lock f arguments 1 then Over Escape ∷ [] else full_lock_call_options x p.at h f rest usage arguments) (if gives_lock f arguments 0 then Over Escape ∷ [] else outside_options x p.at h f rest usage given (receiver_in f arguments))
+        each_if (IsInside x own set_of) (is_lock_call usage) (if gives_lock f arguments 1 then Over Escape ∷ [] else full_lock_call_options x p.at h f rest usage arguments) (if gives_lock f arguments 0 then Over Escape ∷ [] else outside_options x p.at h f rest by usage given (receiver_in f arguments))
         (λ yes_lock. each_if (IsInside x own set_of) (gives_lock f arguments 1) (Over Escape ∷ []) (full_lock_call_options x p.at h f rest usage arguments)
-        (λ g. absurd (false≢true (sym (escapes_by_argument (is_lock_call usage) row arguments yes_lock no_escape) ∙ given_lock 1 g)))
+        (λ g. absurd (false≢true (sym (escapes_by_argument (is_lock_call usage) (row_of x own set_of p f) arguments yes_lock (no_escape h ok f rest by usage arguments given t is)) ∙ given_lock h ok f rest by usage arguments given t is 1 g)))
         (λ _. each_if (IsInside x own set_of) (lacks_argument usage (register f (argument_of arguments))) (Over Stuck ∷ []) (lock_call_options x p.at h f rest usage arguments (receiver_in f arguments))
         (λ _. (tt, tt))
-        (λ full. lock_call_ok yes_lock full (receiver_in f arguments) refl)))
-        (λ off. each_if (IsInside x own set_of) (gives_lock f arguments 0) (Over Escape ∷ []) (outside_options x p.at h f rest usage given (receiver_in f arguments))
-        (λ g. absurd (false≢true (sym (escapes_outside (is_lock_call usage) row arguments off no_escape) ∙ given_lock 0 g)))
-        (λ _. outside_ok off (receiver_in f arguments) refl))
+        (λ full. lock_call_ok h ok f rest by usage arguments given t is yes_lock full (receiver_in f arguments) refl)))
+        (λ off. each_if (IsInside x own set_of) (gives_lock f arguments 0) (Over Escape ∷ []) (outside_options x p.at h f rest by usage given (receiver_in f arguments))
+        (λ g. absurd (false≢true (sym (escapes_outside (is_lock_call usage) (row_of x own set_of p f) arguments off (no_escape h ok f rest by usage arguments given t is)) ∙ given_lock h ok f rest by usage arguments given t is 0 g)))
+        (λ _. outside_ok h ok f rest by usage arguments given t is off))

@@ -1,6 +1,9 @@
 -- The registers with which a callback's method begins are as the entry's tags say, and free values are no locks.
-use Rattle.std.proofs.Common.{None, Some, Option, refl, false, ◌≡◌, ℕ, zero, suc, ◌-◌, ◌<◌, List, [], ◌∷◌, ◌++◌, length, map, replicate, get_or, slice_get, ap, arith}
-use Rattle.std.specs.List.{range_with_len}
+use Rattle.std.proofs.Common.{None, Some, Option, Bool, true, false, if◌then◌else◌, refl, ◌≡◌, ℕ, zero, suc, ◌-◌, ◌<◌, List, [], ◌∷◌, ◌++◌, length, map, replicate, get_or, slice_get, ap, ◌∙◌, arith, length-append}
+use Rattle.std.specs.List.{flat_map, range_with_len, sum_by}
+use Rattle.std.proofs.lemmas.List.{length-replicate}
+use Rattle.std.proofs.lemmas.List.Concat.{flat_map-cons}
+use Rattle.std.proofs.lemmas.List.Sums.{sum_by-cons}
 use Rattle.ns_base.specs.declared.rows.TypeNo.{TypeNo}
 use Rattle.app_model.specs.declared.rows.MethodRow.{MethodRow}
 use Rattle.app_model.specs.declared.tag.Tag.{Tag}
@@ -8,21 +11,30 @@ use Rattle.app_model.specs.declared.tag.Tag.TheVariants as tag
 use Rattle.app_model.specs.Components.{ComponentParts}
 use Rattle.app_model.specs.Names.{type_text}
 use Rattle.app_model.specs.Parts.{AppParts, ProtoParts}
-use Rattle.dalvik.specs.Descriptors.{is_reference}
-use Rattle.flow_model.specs.Changes.{tag_in, given_tag}
-use Rattle.flow_model.specs.declared.act.Gives.{Gives}
-use Rattle.flow_model.specs.declared.act.Gives.TheVariants as gives
-use Rattle.flow_model.specs.Entries.{arguments_row, entry_row}
+use Rattle.dalvik.specs.Descriptors.{is_reference, words_of}
+use Rattle.app_model.specs.Sound.{params_len}
+use Rattle.act_model.specs.Changes.{tag_in, given_tag, written_tag}
+use Rattle.act_model.specs.declared.act.Written.{Written}
+use Rattle.act_model.specs.declared.act.Written.TheVariants as written
+use Rattle.act_model.specs.declared.act.Gives.{Gives}
+use Rattle.act_model.specs.declared.act.Gives.TheVariants as gives
+use Rattle.act_model.specs.Entries.{callback_row, callback_words, entry_row, fitted}
 use Rattle.run_model.specs.Heaps.{Value, Zero, Object, Heap, is_lock}
-use Rattle.run_model.specs.Machine.{free_numbers, free_references, answers_of, is_wide, words_of, argument_words, fitted, chosen, this_of, entries_of}
+use Rattle.run_model.specs.Machine.{free_numbers, free_references, free_objects, answers_of, argument_words, parameter_words, chosen, this_of, entries_of, written_values}
 use Rattle.run_model.specs.Relation.{AreTagged, Each, IsSolid, Means}
-use Rattle.run_model.proofs.Members.{each_append, each_map, each_flat_map, each_all, each_if}
+use Rattle.run_model.proofs.Members.{each_append, each_map, each_flat_map, each_all}
 
 abbrev pub NoLock : Value → Type 0
 NoLock v = is_lock v ≡ false
 
 numbers_ok : Each NoLock free_numbers
 numbers_ok = (refl, (refl, tt))
+
+objects_solid : (app : AppParts) → Each IsSolid (free_objects app)
+objects_solid app =
+    each_append IsSolid (map (λ t. Object (Some t)) (range_with_len 0 (length app.types))) (Object None ∷ [])
+    (each_map (λ (t : ℕ). Unit {0}) IsSolid (λ t. Object (Some t)) (λ t _. tt) (range_with_len 0 (length app.types)) (each_all (λ (t : ℕ). Unit {0}) (λ t. tt) (range_with_len 0 (length app.types))))
+    (tt, tt)
 
 pub references_ok : (app : AppParts) → Each NoLock (free_references app)
 references_ok app = (
@@ -32,21 +44,64 @@ references_ok app = (
       (refl, tt),
 )
 
+-- what is written is as its tag says
+pub written_ok : (app : AppParts) (what : Written) (lo hi : ℕ) (h : Heap) → Each (λ v. Means (written_tag what) v lo hi h) (written_values app what)
+written_ok app written.Zero lo hi h = (refl, tt)
+written_ok app written.Nonzero lo hi h = (tt, tt)
+written_ok app written.Number lo hi h = numbers_ok
+written_ok app written.Reference lo hi h = references_ok app
+written_ok app written.FreeObject lo hi h = objects_solid app
+written_ok app written.Pair lo hi h = numbers_ok
+written_ok app written.Text lo hi h = (tt, tt)
+written_ok app written.ClassObject lo hi h = (tt, tt)
+written_ok app (written.Typed kind) lo hi h = (tt, tt)
+
 -- what the outside answers is as the tag of the result says
 pub answers_ok : (app : AppParts) (given : Gives) (lo hi : ℕ) (h : Heap) → Each (λ v. Means (given_tag given) v lo hi h) (answers_of app given)
 answers_ok app gives.Nothing lo hi h = (refl, tt)
 answers_ok app gives.Number lo hi h = numbers_ok
 answers_ok app gives.Object lo hi h = references_ok app
 
-words_ok : (app : AppParts) (text : List ℕ) → Each (Each NoLock) (words_of app text)
-words_ok app text =
-    each_if (Each NoLock) (is_reference text) (free_references app ∷ []) _ (λ _. (references_ok app, tt))
-    (λ _. each_if (Each NoLock) (is_wide text) (free_numbers ∷ free_numbers ∷ []) (free_numbers ∷ []) (λ _. (numbers_ok, (numbers_ok, tt))) (λ _. (numbers_ok, tt)))
+-- ---- the words of a callback's parameters: no locks, and as many as the prototype says
+words_no_lock : (app : AppParts) (text : List ℕ) → Each NoLock (if is_reference text then free_references app else free_numbers)
+words_no_lock app text = by (is_reference text)
+  where
+    by : (b : Bool) → Each NoLock (if b then free_references app else free_numbers)
+    by true = references_ok app
+    by false = numbers_ok
 
-argument_words_ok : (app : AppParts) (proto : Option ProtoParts) → Each (Each NoLock) (argument_words app proto)
-argument_words_ok app None = tt
-argument_words_ok app (Some proto) =
-    each_flat_map (λ (t : TypeNo). Unit {0}) (Each NoLock) (λ (t : TypeNo). words_of app (type_text app t.0)) (λ t _. words_ok app (type_text app t.0)) proto.params (each_all (λ (t : TypeNo). Unit {0}) (λ t. tt) proto.params)
+replicated : (n : ℕ) (values : List Value) → Each NoLock values → Each (Each NoLock) (replicate n values)
+replicated zero values ok = tt
+replicated (suc n) values ok = (ok, replicated n values ok)
+
+parameters_no_lock : (app : AppParts) (proto : Option ProtoParts) → Each (Each NoLock) (parameter_words app proto)
+parameters_no_lock app None = tt
+parameters_no_lock app (Some proto) =
+    each_flat_map (λ (t : TypeNo). Unit {0}) (Each NoLock) (λ (t : TypeNo). argument_words app (type_text app t.0))
+    (λ t _. replicated (words_of (type_text app t.0)) _ (words_no_lock app (type_text app t.0))) proto.params (each_all (λ (t : TypeNo). Unit {0}) (λ t. tt) proto.params)
+
+params_counted : (app : AppParts) (params : List TypeNo) → length (flat_map (λ (t : TypeNo). argument_words app (type_text app t.0)) params) ≡ sum_by (λ (t : TypeNo). words_of (type_text app t.0)) params
+params_counted app [] = refl
+params_counted app (t ∷ ts) =
+    let words = λ (t : TypeNo). argument_words app (type_text app t.0) in
+    let here : length (words t) ≡ words_of (type_text app t.0) = length-replicate (words_of (type_text app t.0)) _ in
+    let rest = params_counted app ts in
+    rw (flat_map-cons words t ts, length-append, here, sum_by-cons (λ (t : TypeNo). words_of (type_text app t.0)) t ts, rest) refl
+
+parameters_counted : (app : AppParts) (proto : Option ProtoParts) → length (parameter_words app proto) ≡ params_len app proto
+parameters_counted app None = refl
+parameters_counted app (Some proto) = params_counted app proto.params
+
+-- so many values, none of them a lock
+record AreFree (n : ℕ) (values : List Value) : Type 0 where
+  count : length values ≡ n
+  each : Each NoLock values
+
+chosen_free : (words : List (List Value)) → Each (Each NoLock) words → Each (AreFree (length words)) (chosen words)
+chosen_free [] ok = (record { count = refl; each = tt }, tt)
+chosen_free (word ∷ words) ok =
+    each_flat_map NoLock (AreFree (suc (length words))) (λ v. map (λ vs. v ∷ vs) (chosen words))
+    (λ v free. each_map (AreFree (length words)) (AreFree (suc (length words))) (λ vs. v ∷ vs) (λ vs f. record { count = ap suc f.count; each = (free, f.each) }) (chosen words) (chosen_free words ok.1)) word ok.0
 
 module _ (lo hi : ℕ) (h : Heap) where
   -- the values of a row, one by one
@@ -82,42 +137,36 @@ module _ (lo hi : ℕ) (h : Heap) where
   pub meant_tagged : (ts : List Tag) (vs : List Value) → AreMeant ts vs → AreTagged ts vs lo hi h
   meant_tagged ts vs a = record { count = meant_length ts vs a; each = meant_each ts vs a }
 
-  -- words whose values are as the tags of a row say
-  abbrev AreFit : List Tag → List (List Value) → Type 0
-  AreFit [] [] = Unit {0}
-  AreFit [] (w ∷ ws) = ⊥
-  AreFit (t ∷ ts) [] = ⊥
-  AreFit (t ∷ ts) (w ∷ ws) = Each (λ v. Means t v lo hi h) w × AreFit ts ws
+  -- free values are as tags of what is no lock say
+  free_meant : (n : ℕ) (values : List Value) → length values ≡ n → Each NoLock values → AreMeant (replicate n tag.Any) values
+  free_meant zero [] count free = tt
+  free_meant zero (v ∷ vs) count free = absurd (omega (arith, count))
+  free_meant (suc n) [] count free = absurd (omega (arith, count))
+  free_meant (suc n) (v ∷ vs) count free = (free.0, free_meant n vs (omega (arith, count)) free.1)
 
-  chosen_ok : (ts : List Tag) (ws : List (List Value)) → AreFit ts ws → Each (AreMeant ts) (chosen ws)
-  chosen_ok [] [] a = (tt, tt)
-  chosen_ok [] (w ∷ ws) a = absurd a
-  chosen_ok (t ∷ ts) [] a = absurd a
-  chosen_ok (t ∷ ts) (w ∷ ws) a =
-      each_flat_map (λ v. Means t v lo hi h) (AreMeant (t ∷ ts)) (λ v. map (λ vs. v ∷ vs) (chosen ws))
-      (λ v m. each_map (AreMeant ts) (AreMeant (t ∷ ts)) (λ vs. v ∷ vs) (λ vs b. (m, b)) (chosen ws) (chosen_ok ts ws a.1)) w a.0
-
-  others_fit : (n : ℕ) (ws : List (List Value)) → Each (Each NoLock) ws → AreFit (replicate n tag.Any) (fitted n ws)
-  others_fit zero ws a = tt
-  others_fit (suc n) [] a = ((refl, tt), others_fit n [] tt)
-  others_fit (suc n) (w ∷ ws) a = (a.0, others_fit n ws a.1)
+  meant_fitted : (n : ℕ) (ts : List Tag) (vs : List Value) → AreMeant ts vs → AreMeant (fitted tag.Zero n ts) (fitted Zero n vs)
+  meant_fitted zero ts vs a = tt
+  meant_fitted (suc n) [] [] a = (refl, meant_fitted n [] [] tt)
+  meant_fitted (suc n) [] (v ∷ vs) a = absurd a
+  meant_fitted (suc n) (t ∷ ts) [] a = absurd a
+  meant_fitted (suc n) (t ∷ ts) (v ∷ vs) a = (a.0, meant_fitted n ts vs a.1)
 
   this_solid : (app : AppParts) (component : Option ComponentParts) → IsSolid (this_of app component)
   this_solid app None = tt
   this_solid app (Some component) = tt
 
-  arguments_fit : (app : AppParts) (component : Option ComponentParts) (n : ℕ) (ws : List (List Value)) → Each (Each NoLock) ws → AreFit (arguments_row n) (fitted n ((this_of app component ∷ []) ∷ ws))
-  arguments_fit app component zero ws a = tt
-  arguments_fit app component (suc n) ws a = ((this_solid app component, tt), others_fit n ws a)
+  meant_entry : (registers ins : ℕ) (ts : List Tag) (vs : List Value) → AreMeant ts vs → AreTagged (entry_row tag.Zero registers ins ts) (entry_row Zero registers ins vs) lo hi h
+  meant_entry registers ins ts vs a =
+      meant_tagged _ _
+      (meant_append (replicate (registers - ins) tag.Zero ++ fitted tag.Zero ins ts) (replicate (registers - ins) Zero ++ fitted Zero ins vs) (tag.Zero ∷ []) (Zero ∷ [])
+      (meant_append (replicate (registers - ins) tag.Zero) (replicate (registers - ins) Zero) (fitted tag.Zero ins ts) (fitted Zero ins vs) (meant_zeros (registers - ins)) (meant_fitted ins ts vs a)) (refl, tt))
 
-  pub entries_ok : (app : AppParts) (component : Option ComponentParts) (method : Option MethodRow) → Each (λ values. AreTagged (entry_row method) values lo hi h) (entries_of app (this_of app component) method)
+  pub entries_ok : (app : AppParts) (component : Option ComponentParts) (method : Option MethodRow) → Each (λ values. AreTagged (callback_row app method) values lo hi h) (entries_of app (this_of app component) method)
   entries_ok app component None = (meant_tagged [] [] tt, tt)
   entries_ok app component (Some method) =
-      let words = argument_words app (slice_get app.protos method.proto.0) in
-      let free = argument_words_ok app (slice_get app.protos method.proto.0) in
-      let fit = arguments_fit app component method.ins words free in
-      each_map (AreMeant (arguments_row method.ins)) (λ values. AreTagged (entry_row (Some method)) values lo hi h) _
-      (λ vs m. meant_tagged (entry_row (Some method)) (replicate (method.registers - method.ins) Zero ++ vs ++ Zero ∷ [])
-      (meant_append (replicate (method.registers - method.ins) tag.Zero ++ arguments_row method.ins) (replicate (method.registers - method.ins) Zero ++ vs) (tag.Zero ∷ []) (Zero ∷ [])
-      (meant_append (replicate (method.registers - method.ins) tag.Zero) (replicate (method.registers - method.ins) Zero) (arguments_row method.ins) vs (meant_zeros (method.registers - method.ins)) m) (refl, tt)))
-      (chosen (fitted method.ins ((this_of app component ∷ []) ∷ words))) (chosen_ok (arguments_row method.ins) (fitted method.ins ((this_of app component ∷ []) ∷ words)) fit)
+      let words = parameter_words app (slice_get app.protos method.proto.0) in
+      let counted = parameters_counted app (slice_get app.protos method.proto.0) in
+      each_map (AreFree (length words)) (λ values. AreTagged (callback_row app (Some method)) values lo hi h) _
+      (λ vs free. meant_entry method.registers method.ins (callback_words app method) (this_of app component ∷ vs)
+      (this_solid app component, free_meant (params_len app (slice_get app.protos method.proto.0)) vs (free.count ∙ counted) free.each))
+      (chosen words) (chosen_free words (parameters_no_lock app (slice_get app.protos method.proto.0)))

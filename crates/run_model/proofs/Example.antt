@@ -13,10 +13,11 @@ use Rattle.app_model.specs.Components.{callback_at, edge_at}
 use Rattle.app_model.specs.LockUse.{lock_use_at}
 use Rattle.app_model.specs.Names.{is_proto, name_text, result_text, type_text}
 use Rattle.app_model.specs.Parts.{AppParts}
-use Rattle.app_model.specs.Slots.{class_text, lock_in, parent_text, slot_at}
+use Rattle.app_model.specs.Slots.{slot_at}
+use Rattle.app_model.specs.Hierarchy.{class_of_type, line_of, lock_in, lock_of, superclass_at}
 use Rattle.app_model.specs.Words.{operand_at, place_at, places_of}
-use Rattle.flow_model.specs.Acts.{act_at}
-use Rattle.flow_model.specs.Subject.{SubjectParts}
+use Rattle.act_model.specs.Acts.{act_at}
+use Rattle.app_model.specs.Subject.{SubjectParts, owner_at, slot_count}
 use Rattle.run_model.specs.Heaps.{cell, is_held_lock, is_lost, is_lost_lock, lock_at, status}
 use Rattle.run_model.specs.Machine.{State, Idle, Running, AtEnd, Over, Uncaught, Stuck, Escape, run_of}
 
@@ -57,7 +58,7 @@ app_of places names = record {
 }
 
 abbrev subject_of : AppParts → SubjectParts
-subject_of app = record { app = app; list = record { class = record { 0 = 0 }; kind = Receiver; exits = 1; methods = Some (record { 0 = 0 }) ∷ [] } ∷ []; tags = λ m i. []; owners = λ l. None }
+subject_of app = record { app = app; list = record { class = record { 0 = 0 }; kind = Receiver; exits = 1; methods = Some (record { 0 = 0 }) ∷ [] } ∷ []; graph = record { sets = []; uses = [] }; tags = record { registers = []; cells = [] }; reached = true ∷ []; answers = 1 ∷ []; owners = None ∷ [] }
 
 -- the lock is acquired; and released too
 abbrev leaking : SubjectParts
@@ -78,20 +79,20 @@ end_status (Over Escape) = 104
 -- the callback's argument is an object of type 1, the power manager's; each instruction takes its first option: at the end
 -- the count is one
 ends_held : end_status (run_of leaking (2 ∷ 0 ∷ 0 ∷ 0 ∷ 0 ∷ 0 ∷ [])) ≡ 2
-unfolding status is_lost is_lost_lock is_held_lock lock_at cell act_at type_text name_text place_at places_of operand_at lock_use_at slot_at class_text lock_in parent_text is_proto result_text callback_at edge_at
+unfolding status is_lost is_lost_lock is_held_lock lock_at cell act_at type_text name_text place_at places_of operand_at lock_use_at slot_at lock_in lock_of line_of class_of_type superclass_at is_proto result_text callback_at edge_at owner_at slot_count
 ends_held = refl
 
 -- with the release the count is zero
 ends_free : end_status (run_of working (2 ∷ 0 ∷ 0 ∷ 0 ∷ 0 ∷ 0 ∷ 0 ∷ [])) ≡ 1
-unfolding status is_lost is_lost_lock is_held_lock lock_at cell act_at type_text name_text place_at places_of operand_at lock_use_at slot_at class_text lock_in parent_text is_proto result_text callback_at edge_at
+unfolding status is_lost is_lost_lock is_held_lock lock_at cell act_at type_text name_text place_at places_of operand_at lock_use_at slot_at lock_in lock_of line_of class_of_type superclass_at is_proto result_text callback_at edge_at owner_at slot_count
 ends_free = refl
 
 -- newWakeLock throws in place of that
 ends_uncaught : end_status (run_of leaking (2 ∷ 1 ∷ [])) ≡ 102
-unfolding status is_lost is_lost_lock is_held_lock lock_at cell act_at type_text name_text place_at places_of operand_at lock_use_at slot_at class_text lock_in parent_text is_proto result_text callback_at edge_at
+unfolding status is_lost is_lost_lock is_held_lock lock_at cell act_at type_text name_text place_at places_of operand_at lock_use_at slot_at lock_in lock_of line_of class_of_type superclass_at is_proto result_text callback_at edge_at owner_at slot_count
 ends_uncaught = refl
 
 -- a second callback, in which the field gets another new lock: the first one is lost
 loses_lock : end_status (run_of leaking (2 ∷ 0 ∷ 0 ∷ 0 ∷ 0 ∷ 0 ∷ 0 ∷ 2 ∷ 0 ∷ 0 ∷ 0 ∷ 0 ∷ 0 ∷ [])) ≡ 7
-unfolding status is_lost is_lost_lock is_held_lock lock_at cell act_at type_text name_text place_at places_of operand_at lock_use_at slot_at class_text lock_in parent_text is_proto result_text callback_at edge_at
+unfolding status is_lost is_lost_lock is_held_lock lock_at cell act_at type_text name_text place_at places_of operand_at lock_use_at slot_at lock_in lock_of line_of class_of_type superclass_at is_proto result_text callback_at edge_at owner_at slot_count
 loses_lock = refl

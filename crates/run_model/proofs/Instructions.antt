@@ -1,51 +1,115 @@
 -- Each instruction keeps the relation.
-use Rattle.std.proofs.Common.{◌≡◌, ℕ, pred, ◌<◌, Bool, true, false, if◌then◌else◌, List, [], ◌∷◌, length, map, get_or, set, Option, Some, None, refl, sym, ap, ◌∙◌, inl, arith, subst, subst₂}
-use Rattle.std.specs.Prelude.{◌==◌}
-use Rattle.std.proofs.lemmas.Bool.{eqb-true, eqb-false, false≢true}
+use Rattle.std.proofs.Common.{◌≡◌, ℕ, pred, ◌+◌, ◌<◌, Bool, true, false, if◌then◌else◌, List, [], ◌∷◌, length, map, get_or, set, slice_get, Option, Some, None, refl, sym, ap, ◌∙◌, inl, arith, subst, subst₂}
+use Rattle.std.specs.Prelude.{◌==◌, not}
+use Rattle.std.proofs.lemmas.Bool.{eq-eqb, eqb-true, eqb-false, ne_eqb, false≢true}
 use Rattle.std.proofs.lemmas.List.{length-set}
 use Rattle.std.proofs.lemmas.Option.{get_or_from_slice_get}
 use Rattle.ns_base.specs.declared.rows.LockNo.{LockNo}
 use Rattle.app_model.specs.declared.tag.Tag.{Tag}
 use Rattle.app_model.specs.declared.tag.Tag.TheVariants as tag
-use Rattle.flow_model.specs.declared.act.Act.{Act}
-use Rattle.flow_model.specs.declared.act.Act.TheVariants.{Nop, ReturnVoid, TakeResult, WriteZero, WriteNonzero, WriteText, CheckCast, ReadStatic, WriteStatic, Call, Other}
-use Rattle.flow_model.specs.Acts.{act_at}
-use Rattle.flow_model.specs.Changes.{tag_in, after, after_stored, result_cell, stored_change}
+use Rattle.act_model.specs.declared.act.Act.{Act}
+use Rattle.act_model.specs.declared.act.Act.TheVariants.{Go, Test, Copy, TakeResult, Write, Fill, ReadSlot, WriteSlot, Give, Check, Throw, Return, Call}
+use Rattle.act_model.specs.declared.act.Returned.{Returned}
+use Rattle.act_model.specs.declared.act.Returned.TheVariants as returned
+use Rattle.act_model.specs.declared.act.Throws.{Throws}
+use Rattle.act_model.specs.declared.act.Throws.TheVariants.{Never, ByChoice, WhereZero}
+use Rattle.act_model.specs.declared.act.Written.{Written}
+use Rattle.ns_base.specs.declared.rows.TypeNo.{TypeNo}
+use Rattle.dalvik.specs.declared.ins.Args.{Args}
+use Rattle.dalvik.specs.declared.body.Place.{Place}
+use Rattle.app_model.specs.Words.{place_at, successor_at, successor_of}
+use Rattle.act_model.specs.Acts.{act_at}
+use Rattle.act_model.specs.Changes.{tag_in, after, after_stored, is_pair, put, result_cell, stored_change, thrown, written_tag}
 use Rattle.flow_model.specs.Derived.{Set}
-use Rattle.flow_model.specs.Entries.{site_at}
+use Rattle.app_model.specs.Sites.{site_at}
 use Rattle.app_model.specs.Facts.{Ret}
 use Rattle.app_model.specs.Masks.{in_mask}
-use Rattle.flow_model.specs.Passes.{only, stored_passes, write_passes, passes}
+use Rattle.flow_model.specs.Status.{only}
+use Rattle.flow_model.specs.Passes.{if_passes, passes, passes_by, slot_passes, stored_passes, test_passes, throws, throws_by}
+use Rattle.flow_model.specs.Subject.{is_return}
+use Rattle.flow_model.proofs.MaskLaws.{IsIn-zero}
 use Rattle.flow_model.specs.Rules.{I1_return}
-use Rattle.flow_model.specs.Scope.{is_escape, may_be_stored, write_escapes}
-use Rattle.flow_model.specs.Subject.{SubjectParts}
-use Rattle.run_model.specs.Heaps.{Value, Zero, Nonzero, Object, LockRef, Heap, Lock, cell, cell_value, counter_at, is_lock, is_lost, is_owned, lock_at, status, with_null, with_stored}
-use Rattle.run_model.specs.Machine.{Frame, Over, Escape, act_options, free_references, goes_on, read_options, register, result_index, returns, store_options, take_options, text_value, write_options, writes}
+use Rattle.flow_model.specs.Scope.{is_escape, may_be_lock, may_be_stored}
+use Rattle.app_model.specs.Subject.{SubjectParts, slot_count}
+use Rattle.run_model.specs.Heaps.{Value, Zero, Nonzero, Object, LockRef, Heap, Lock, cell, cell_value, counter_at, is_lock, is_lost, is_null, is_owned, lock_at, status, with_null, with_stored}
+use Rattle.run_model.specs.Machine.{Frame, Over, Running, State, Escape, act_options, answers, branch, copy_options, fill_options, give_options, gives_lock, go_options, goes_on, goes_to, moved, null_options, register, result_index, return_by, return_options, returns, store_options, stuck_if_none, successors_of, take_options, test_options, throw_options, throws_from, throws_options, write_options, writes, written_options, written_values}
 use Rattle.run_model.specs.Relation.{AreTagged, Below, Each, IsHeap, IsInside, Means}
-use Rattle.run_model.proofs.Members.{each_if, each_map}
+use Rattle.run_model.proofs.Members.{each_append, each_flat_map, each_if, each_map, each_map_at}
 use Rattle.run_model.proofs.Rows.{null_ok, store_ok}
 use Rattle.run_model.proofs.Heaps.{held_above, emptied_status, kept_status, null_cell, null_heap, null_other, other_locks, status_is, taken_apart, taken_apart_cell, taken_cell, taken_heap, taken_other, taken_other_status, taken_status}
 use Rattle.run_model.proofs.Meanings.{KeepsBut, only_at, held_same, means_null, means_stored, may_be, new_stored, zero_stored}
-use Rattle.run_model.proofs.Registers.{tagged_map, tagged_read, tagged_retag, tagged_set}
-use Rattle.run_model.proofs.Entries.{NoLock, references_ok}
-use Rattle.run_model.proofs.Masks.{in_if}
-use Rattle.run_model.proofs.Calls.{call_ok}
-use Rattle.run_model.proofs.Steps.{Premises, Top, goes_ok, only_status, quiet_ok, row_of, start_status, throws_ok}
+use Rattle.run_model.proofs.Registers.{tagged_map, tagged_put, tagged_read, tagged_retag, tagged_set}
+use Rattle.run_model.proofs.Entries.{written_ok}
+use Rattle.run_model.proofs.Masks.{fails_zero, in_if, passes_full, test_ok}
+use Rattle.run_model.proofs.Calls.{call_ok, given_by_tag}
+use Rattle.run_model.proofs.Steps.{Premises, Top, goes_ok, only_status, out_of, quiet_ok, row_of, start_status, throws_ok}
 
-if_stored : (b : Bool) → (if b then false else true) ≡ false → b ≡ true
+if_stored : (b : Bool) → not b ≡ false → b ≡ true
 if_stored true e = refl
 if_stored false e = cc
 
+is_zero_value : (v : Value) → is_null v ≡ true → v ≡ Zero
+is_zero_value Zero is = refl
+is_zero_value Nonzero is = cc
+is_zero_value (Object type) is = cc
+is_zero_value (LockRef i) is = cc
+
+-- a mask that has a status is not empty
+not_zero : (passed image r s : ℕ) → in_mask passed r ≡ true → in_mask image s ≡ true → in_mask (if_passes passed image) s ≡ true
+not_zero passed image r s some mask = by (passed == 0) refl
+  where
+    by : (b : Bool) → (passed == 0) ≡ b → in_mask (if b then 0 else image) s ≡ true
+    by true none = absurd (IsIn-zero r (subst (λ n. in_mask n r ≡ true) (eqb-true passed 0 none) some))
+    by false off = mask
+
+-- the branch of a test is the one of its zero branch exactly where the value is zero
+branch_is : (if_zero : ℕ) (b : Bool) → (branch if_zero b == if_zero) ≡ b
+branch_is if_zero true = eq-eqb if_zero if_zero refl
+branch_is if_zero false = other (if_zero == 0) refl
+  where
+    other : (b : Bool) → (if_zero == 0) ≡ b → ((if b then 1 else 0) == if_zero) ≡ false
+    other true is = ne_eqb 1 if_zero (λ e. omega (arith, e, eqb-true if_zero 0 is))
+    other false off = ne_eqb 0 if_zero (λ e. eqb-false if_zero 0 off (sym e))
+
 module _ (x : SubjectParts) (own : ℕ) (set_of : Set) (p : Premises x own set_of) where
   abbrev number : ℕ
-  number = length x.app.locks
+  number = slot_count x
 
   module _ (h : Heap) (ok : IsHeap number h) (f : Frame) (rest : List Frame) (t : Top x own set_of p h f rest) where
     abbrev row : List Tag
     row = row_of x own set_of p f
 
+    abbrev out : Bool
+    out = out_of x own set_of p f
+
+    abbrev now : ℕ
+    now = status h own
+
+    -- ---- where an instruction throws
+    register_means : (r : ℕ) (v : Value) → register f r ≡ Some v → Means (tag_in row r) v t.lo (length h.locks) h
+    register_means r v there = tagged_read row f.registers t.lo (length h.locks) h t.registers r v there
+
+    -- its own throws, and otherwise what it does where it passes
+    module _ (a : Act) (is : act_at x.app f.method f.index ≡ Some a) (kept : AreTagged (thrown a row) f.registers t.lo (length h.locks) h) where
+      by_throws : (when : Throws) (normal : List State) → in_mask (throws own a row out now) now ≡ in_mask (throws_by own when row now) now
+          → (in_mask (passes_by own when row now) now ≡ true → Each (IsInside x own set_of) normal) → Each (IsInside x own set_of) (throws_options x p.at h f rest when normal)
+      by_throws Never normal same passed = passed (only_status h own)
+      by_throws ByChoice normal same passed =
+          each_append (IsInside x own set_of) normal (throws_from x p.at h (f ∷ rest)) (passed (only_status h own))
+          (throws_ok x own set_of p h ok f rest a t is (same ∙ only_status h own) kept)
+      by_throws (WhereZero r) normal same passed = where_null (register f r) refl
+        where
+          where_null : (o : Option Value) → register f r ≡ o → Each (IsInside x own set_of) (null_options x p.at h f rest o normal)
+          where_null None there = (tt, tt)
+          where_null (Some v) there =
+              each_if (IsInside x own set_of) (is_null v) (throws_from x p.at h (f ∷ rest)) normal
+              (λ null.
+              (let zero_there : Means (tag_in row r) Zero t.lo (length h.locks) h = subst (λ (w : Value). Means (tag_in row r) w t.lo (length h.locks) h) (is_zero_value v null) (register_means r v there) in
+              throws_ok x own set_of p h ok f rest a t is (same ∙ fails_zero own t.lo (length h.locks) h (tag_in row r) zero_there) kept))
+              (λ full. passed (passes_full own t.lo (length h.locks) h (tag_in row r) v full (register_means r v there)))
+
     -- a register that gets a value
-    write_ok : (a : Act) (to : ℕ) (tag : Tag) (v : Value) → act_at x.app f.method f.index ≡ Some a → in_mask (passes own a row 0 (status h own)) (status h own) ≡ true
+    write_ok : (a : Act) (to : ℕ) (tag : Tag) (v : Value) → act_at x.app f.method f.index ≡ Some a → in_mask (passes own a row out 0 now) now ≡ true
         → (AreTagged (set row to tag) (set f.registers to v) t.lo (length h.locks) h → AreTagged (after (site_at x.app f.method f.index) a row) (set f.registers to v) t.lo (length h.locks) h)
         → Means tag v t.lo (length h.locks) h → IsInside x own set_of (writes x p.at h f rest to v)
     write_ok a to tag v is mask as_after means = quiet_ok x own set_of p h ok f rest (set f.registers to v) a 0 t is mask (as_after (tagged_set row f.registers t.lo (length h.locks) h t.registers to tag v means))
@@ -54,35 +118,115 @@ module _ (x : SubjectParts) (own : ℕ) (set_of : Set) (p : Premises x own set_o
     take_ok to is None there = (tt, tt)
     take_ok to is (Some v) there =
         let same : result_index f ≡ result_cell row = ap pred t.registers.count in
-        let means = tagged_read row f.registers t.lo (length h.locks) h t.registers (result_index f) v there in
+        let means = register_means (result_index f) v there in
         (write_ok (TakeResult to) to (tag_in row (result_cell row)) v is (only_status h own) (λ a. a) (subst (λ r. Means (tag_in row r) v t.lo (length h.locks) h) same means), tt)
 
-    read_ok : (to : ℕ) (slot : Option LockNo) → act_at x.app f.method f.index ≡ Some (ReadStatic to slot) → Each (IsInside x own set_of) (read_options x p.at h f rest to slot)
-    read_ok to (Some l) is = (write_ok (ReadStatic to (Some l)) to (tag.Field l) (cell_value (cell h l.0)) is (only_status h own) (λ a. a) refl, tt)
-    read_ok to None is =
-        each_map NoLock (IsInside x own set_of) (writes x p.at h f rest to) (λ v no_lock. write_ok (ReadStatic to None) to tag.Any v is (only_status h own) (λ a. a) no_lock) (free_references x.app) (references_ok x.app)
+    -- ---- on by each successor, and by a test
+    place_successors : (o : Option Place) (k i : ℕ) → slice_get (successors_of o) k ≡ Some i → successor_of o k ≡ Some i
+    place_successors None k i e = e
+    place_successors (Some place) k i e = e
+
+    goes_there : (a : Act) (k i : ℕ) → act_at x.app f.method f.index ≡ Some a → in_mask (passes own a row out k now) now ≡ true → AreTagged (after (site_at x.app f.method f.index) a row) f.registers t.lo (length h.locks) h
+        → successor_at x.app f.method f.index k ≡ Some i → IsInside x own set_of (Running p.at h (moved f i f.registers ∷ rest))
+    goes_there a k i is mask tagged next =
+        subst (λ (o : Option ℕ). IsInside x own set_of (goes_to p.at h f rest f.registers o)) next (quiet_ok x own set_of p h ok f rest f.registers a k t is mask tagged)
+
+    not_none : (states : List State) → Each (IsInside x own set_of) states → Each (IsInside x own set_of) (stuck_if_none states)
+    not_none [] each = (tt, tt)
+    not_none (state ∷ states) each = each
+
+    go_ok : act_at x.app f.method f.index ≡ Some Go → Each (IsInside x own set_of) (go_options x p.at h f rest)
+    go_ok is =
+        not_none _
+        (each_map_at (IsInside x own set_of) (λ i. Running p.at h (moved f i f.registers ∷ rest)) (successors_of (place_at x.app f.method f.index))
+        (λ k i there. goes_there Go k i is (only_status h own) t.registers (place_successors (place_at x.app f.method f.index) k i there)))
+
+    test_branch : (value if_zero : ℕ) → act_at x.app f.method f.index ≡ Some (Test value if_zero) → (o : Option Value) → register f value ≡ o → Each (IsInside x own set_of) (test_options x p.at h f rest if_zero o)
+    test_branch value if_zero is None there = (tt, tt)
+    test_branch value if_zero is (Some v) there =
+        let k = branch if_zero (is_null v) in
+        let mask = subst (λ (b : Bool). in_mask (test_passes own (tag_in row value) b now) now ≡ true) (sym (branch_is if_zero (is_null v))) (test_ok own t.lo (length h.locks) h (tag_in row value) v (register_means value v there)) in
+        (quiet_ok x own set_of p h ok f rest f.registers (Test value if_zero) k t is mask t.registers, tt)
+
+    -- ---- copies and writes
+    copy_ok : (to from : ℕ) (wide : Bool) → act_at x.app f.method f.index ≡ Some (Copy to from wide) → (o o' : Option Value) → register f from ≡ o → register f (from + 1) ≡ o' → Each (IsInside x own set_of) (copy_options x p.at h f rest to wide o o')
+    copy_ok to from wide is None o' there next = (tt, tt)
+    copy_ok to from false is (Some v) o' there next = (write_ok (Copy to from false) to (tag_in row from) v is (only_status h own) (λ a. a) (register_means from v there), tt)
+    copy_ok to from true is (Some v) None there next = (tt, tt)
+    copy_ok to from true is (Some v) (Some w) there next = (
+      quiet_ok x own set_of p h ok f rest (put true f.registers to v w) (Copy to from true) 0 t is (only_status h own)
+          (tagged_put row f.registers t.lo (length h.locks) h t.registers true to (tag_in row from) (tag_in row (from + 1)) v w (register_means from v there) (register_means (from + 1) w next)),
+      tt,
+    )
+
+    -- what is written, to a register or to a pair
+    module _ (to : ℕ) (what : Written) (when : Throws) (is : act_at x.app f.method f.index ≡ Some (Write to what when)) (mask : in_mask (passes_by own when row now) now ≡ true) where
+      abbrev meant : Value → Type 0
+      meant v = Means (written_tag what) v t.lo (length h.locks) h
+
+      put_ok : (wide : Bool) → is_pair what ≡ wide → (v w : Value) → meant v → meant w → IsInside x own set_of (goes_on x p.at h f rest (put wide f.registers to v w) 0)
+      put_ok wide same v w vok wok =
+          quiet_ok x own set_of p h ok f rest (put wide f.registers to v w) (Write to what when) 0 t is mask
+          (rw same (tagged_put row f.registers t.lo (length h.locks) h t.registers wide to (written_tag what) (written_tag what) v w vok wok))
+
+      written_values_ok : (wide : Bool) → is_pair what ≡ wide → (values : List Value) → Each meant values → Each (IsInside x own set_of) (written_options x p.at h f rest to wide values)
+      written_values_ok false same values each = each_map meant (IsInside x own set_of) (writes x p.at h f rest to) (λ v vok. put_ok false same v v vok vok) values each
+      written_values_ok true same values each =
+          each_flat_map meant (IsInside x own set_of) (λ v. map (λ w. goes_on x p.at h f rest (put true f.registers to v w) 0) values)
+          (λ v vok. each_map meant (IsInside x own set_of) (λ w. goes_on x p.at h f rest (put true f.registers to v w) 0) (λ w wok. put_ok true same v w vok wok) values each) values each
+
+    written_ok_by : (to : ℕ) (what : Written) (when : Throws) → act_at x.app f.method f.index ≡ Some (Write to what when)
+        → Each (IsInside x own set_of) (throws_options x p.at h f rest when (written_options x p.at h f rest to (is_pair what) (written_values x.app what)))
+    written_ok_by to what when is =
+        by_throws (Write to what when) is t.registers when _ refl
+        (λ mask. written_values_ok to what when is mask (is_pair what) refl (written_values x.app what) (written_ok x.app what t.lo (length h.locks) h))
+
+    read_ok : (to : ℕ) (slot : LockNo) (when : Throws) → act_at x.app f.method f.index ≡ Some (ReadSlot to slot when)
+        → Each (IsInside x own set_of) (throws_options x p.at h f rest when (writes x p.at h f rest to (cell_value (cell h slot.0)) ∷ []))
+    read_ok to slot when is =
+        by_throws (ReadSlot to slot when) is t.registers when _ refl
+        (λ mask. (write_ok (ReadSlot to slot when) to (tag.Field slot) (cell_value (cell h slot.0)) is mask (λ a. a) refl, tt))
+
+    check_ok : (when : Throws) → act_at x.app f.method f.index ≡ Some (Check when) → Each (IsInside x own set_of) (throws_options x p.at h f rest when (goes_on x p.at h f rest f.registers 0 ∷ []))
+    check_ok when is =
+        by_throws (Check when) is t.registers when _ refl
+        (λ mask. (quiet_ok x own set_of p h ok f rest f.registers (Check when) 0 t is mask t.registers, tt))
+
+    -- ---- where a lock would not be followed: it is none, by its tag
+    no_lock_at : (r : ℕ) (v : Value) → register f r ≡ Some v → may_be_lock (tag_in row r) ≡ false → is_lock v ≡ true → ⊥
+    no_lock_at r v there off lock = false≢true (sym off ∙ may_be (tag_in row r) v t.lo (length h.locks) h (register_means r v there) lock)
+
+    give_ok : (from : ℕ) (when : Throws) → act_at x.app f.method f.index ≡ Some (Give from when) → Each (IsInside x own set_of) (throws_options x p.at h f rest when (give_options x p.at h f rest (register f from)))
+    give_ok from when is = by_throws (Give from when) is t.registers when _ refl (λ mask. given mask (register f from) refl)
+      where
+        off : may_be_lock (tag_in row from) ≡ false
+        off = subst (λ (o : Option Act). is_escape o row ≡ false) is (p.tagged.no_escape f.method f.index t.entered)
+
+        given : in_mask (passes_by own when row now) now ≡ true → (o : Option Value) → register f from ≡ o → Each (IsInside x own set_of) (give_options x p.at h f rest o)
+        given mask None there = (tt, tt)
+        given mask (Some v) there =
+            each_if (IsInside x own set_of) (is_lock v) (Over Escape ∷ []) (goes_on x p.at h f rest f.registers 0 ∷ []) (λ lock. absurd (no_lock_at from v there off lock))
+            (λ _. (quiet_ok x own set_of p h ok f rest f.registers (Give from when) 0 t is mask t.registers, tt))
+
+    throw_ok : (object : ℕ) → act_at x.app f.method f.index ≡ Some (Throw object) → (o : Option Value) → register f object ≡ o → Each (IsInside x own set_of) (throw_options x p.at h f rest o)
+    throw_ok object is None there = (tt, tt)
+    throw_ok object is (Some v) there =
+        each_if (IsInside x own set_of) (is_lock v) (Over Escape ∷ []) (throws_from x p.at h (f ∷ rest))
+        (λ lock. absurd (no_lock_at object v there (subst (λ (o : Option Act). is_escape o row ≡ false) is (p.tagged.no_escape f.method f.index t.entered)) lock))
+        (λ _. throws_ok x own set_of p h ok f rest (Throw object) t is (only_status h own) t.registers)
 
     -- ---- stores
-    module _ (from : ℕ) (slot : Option LockNo) (is : act_at x.app f.method f.index ≡ Some (WriteStatic from slot)) where
-      no_escape : write_escapes slot (tag_in row from) ≡ false
-      no_escape = subst (λ (o : Option Act). is_escape o row ≡ false) is (p.tagged.no_escape f.method f.index t.entered)
-
-      stored_means : (v : Value) → register f from ≡ Some v → Means (tag_in row from) v t.lo (length h.locks) h
-      stored_means v there = tagged_read row f.registers t.lo (length h.locks) h t.registers from v there
-
-    other_field : (from : ℕ) (v : Value) → act_at x.app f.method f.index ≡ Some (WriteStatic from None) → register f from ≡ Some v → Each (IsInside x own set_of) (write_options x p.at h f rest None (Some v))
-    other_field from v is there =
-        each_if (IsInside x own set_of) (is_lock v) (Over Escape ∷ []) (goes_on x p.at h f rest f.registers 0 ∷ [])
-        (λ lock. absurd (false≢true (sym (no_escape from None is) ∙ may_be (tag_in row from) v t.lo (length h.locks) h (stored_means from None is v there) lock)))
-        (λ _. (quiet_ok x own set_of p h ok f rest f.registers (WriteStatic from None) 0 t is (only_status h own) t.registers, tt))
-
     -- of null to lock field l
-    module _ (from : ℕ) (l : LockNo) (is : act_at x.app f.method f.index ≡ Some (WriteStatic from (Some l))) where
+    module _ (from : ℕ) (l : LockNo) (when : Throws) (is : act_at x.app f.method f.index ≡ Some (WriteSlot from l when)) (passed : in_mask (passes_by own when row now) now ≡ true) where
       in_range : l.0 < number
-      in_range = p.tagged.slots f.method f.index from l t.entered is
+      in_range = p.tagged.slots f.method f.index from l when t.entered is
 
       may_store : may_be_stored (tag_in row from) ≡ true
-      may_store = if_stored (may_be_stored (tag_in row from)) (no_escape from (Some l) is)
+      may_store = if_stored (may_be_stored (tag_in row from)) (subst (λ (o : Option Act). is_escape o row ≡ false) is (p.tagged.no_escape f.method f.index t.entered))
+
+      -- it passes, so the mask is that of the store
+      store_mask : (image : ℕ) (s : ℕ) → in_mask image s ≡ true → in_mask (if_passes (passes_by own when row now) image) s ≡ true
+      store_mask image s mask = not_zero (passes_by own when row now) image now s passed mask
 
       abbrev emptied : Heap
       emptied = with_null h l.0
@@ -95,7 +239,7 @@ module _ (x : SubjectParts) (own : ℕ) (set_of : Set) (p : Premises x own set_o
         held = λ k off. held_same h emptied (cell h k) (λ i _. ap (λ (y : Lock). y.count) (other_locks h (set h.cells l.0 None) i));
       }
 
-      null_mask : in_mask (write_passes own (Some l) tag.Zero (status h own)) (status emptied own) ≡ true
+      null_mask : in_mask (slot_passes own l tag.Zero (status h own)) (status emptied own) ≡ true
       null_mask =
           in_if (l.0 == own) (stored_passes tag.Zero (status h own)) (only (status h own)) (status emptied own)
           (λ same.
@@ -106,10 +250,10 @@ module _ (x : SubjectParts) (own : ℕ) (set_of : Set) (p : Premises x own set_o
 
       store_null : register f from ≡ Some Zero → Each (IsInside x own set_of) (store_options x p.at h f rest l.0 Zero)
       store_null there =
-          let e = zero_stored (tag_in row from) t.lo (length h.locks) h (stored_means from (Some l) is Zero there) may_store in
+          let e = zero_stored (tag_in row from) t.lo (length h.locks) h (register_means from Zero there) may_store in
           let tags = tagged_map row f.registers t.lo (length h.locks) h t.registers (stored_change l.0 tag.Zero) (length emptied.locks) emptied (means_null t.lo (length h.locks) (length emptied.locks) h emptied l.0 null_keeps) in (
-            goes_ok x own set_of p h emptied f rest f.registers (WriteStatic from (Some l)) 0 t (null_heap number h l.0 ok in_range) is (omega arith)
-                (subst (λ (q : Tag). in_mask (write_passes own (Some l) q (status h own)) (status emptied own) ≡ true) (sym e) null_mask)
+            goes_ok x own set_of p h emptied f rest f.registers (WriteSlot from l when) 0 t (null_heap number h l.0 ok in_range) is (omega arith)
+                (store_mask _ (status emptied own) (subst (λ (q : Tag). in_mask (slot_passes own l q (status h own)) (status emptied own) ≡ true) (sym e) null_mask))
                 (subst (λ (q : Tag). AreTagged (after_stored row from l q) f.registers t.lo (length emptied.locks) emptied) (sym e) tags),
             tt,
           )
@@ -119,7 +263,7 @@ module _ (x : SubjectParts) (own : ℕ) (set_of : Set) (p : Premises x own set_o
         abbrev stored : Heap
         stored = with_stored h l.0 i
 
-        new_mask : in_mask (write_passes own (Some l) (tag.New z) (status h own)) (status stored own) ≡ true
+        new_mask : in_mask (slot_passes own l (tag.New z) (status h own)) (status stored own) ≡ true
         new_mask =
             in_if (l.0 == own) (stored_passes (tag.New z) (status h own)) (only (status h own)) (status stored own)
             (λ same.
@@ -144,8 +288,8 @@ module _ (x : SubjectParts) (own : ℕ) (set_of : Set) (p : Premises x own set_o
             let held : get_or f.registers from Zero ≡ LockRef i = get_or_from_slice_get f.registers from (LockRef i) Zero there in
             let means : Means (tag.Field l) (get_or f.registers from Zero) t.lo (length stored.locks) stored = held ∙ ap cell_value (sym (taken_cell number h l.0 ok in_range i below loose)) in
             let tags = tagged_retag (map (stored_change l.0 (tag.New z)) row) f.registers t.lo (length stored.locks) stored new_tags from (tag.Field l) means in
-            goes_ok x own set_of p h stored f rest f.registers (WriteStatic from (Some l)) 0 t (taken_heap number h l.0 ok in_range i below loose) is (omega (arith, same_length))
-            (subst (λ (q : Tag). in_mask (write_passes own (Some l) q (status h own)) (status stored own) ≡ true) (sym e) new_mask)
+            goes_ok x own set_of p h stored f rest f.registers (WriteSlot from l when) 0 t (taken_heap number h l.0 ok in_range i below loose) is (omega (arith, same_length))
+            (store_mask _ (status stored own) (subst (λ (q : Tag). in_mask (slot_passes own l q (status h own)) (status stored own) ≡ true) (sym e) new_mask))
             (subst (λ (q : Tag). AreTagged (after_stored row from l q) f.registers t.lo (length stored.locks) stored) (sym e) tags)
 
       same_lock : (i j : ℕ) → LockRef i ≡ LockRef j → j ≡ i
@@ -153,7 +297,7 @@ module _ (x : SubjectParts) (own : ℕ) (set_of : Set) (p : Premises x own set_o
 
       store_lock : (i : ℕ) → register f from ≡ Some (LockRef i) → Each (IsInside x own set_of) (store_options x p.at h f rest l.0 (LockRef i))
       store_lock i there =
-          let new = new_stored (tag_in row from) i t.lo (length h.locks) h (stored_means from (Some l) is (LockRef i) there) may_store in
+          let new = new_stored (tag_in row from) i t.lo (length h.locks) h (register_means from (LockRef i) there) may_store in
           let n = new.2 in
           let same = same_lock i n.i n.is in
           let below : i < length h.locks = subst (λ j. j < length h.locks) same n.below in
@@ -169,16 +313,17 @@ module _ (x : SubjectParts) (own : ℕ) (set_of : Set) (p : Premises x own set_o
       store_ok_by (Object type) there = (tt, tt)
       store_ok_by (LockRef i) there = store_lock i there
 
-    write_static : (from : ℕ) (slot : Option LockNo) → act_at x.app f.method f.index ≡ Some (WriteStatic from slot) → (o : Option Value) → register f from ≡ o → Each (IsInside x own set_of) (write_options x p.at h f rest slot o)
-    write_static from None is None there = (tt, tt)
-    write_static from (Some l) is None there = (tt, tt)
-    write_static from None is (Some v) there = other_field from v is there
-    write_static from (Some l) is (Some v) there = store_ok_by from l is v there
+      store_value : (o : Option Value) → register f from ≡ o → Each (IsInside x own set_of) (write_options x p.at h f rest l o)
+      store_value None there = (tt, tt)
+      store_value (Some v) there = store_ok_by v there
+
+    write_slot : (from : ℕ) (l : LockNo) (when : Throws) → act_at x.app f.method f.index ≡ Some (WriteSlot from l when) → Each (IsInside x own set_of) (throws_options x p.at h f rest when (write_options x p.at h f rest l (register f from)))
+    write_slot from l when is = by_throws (WriteSlot from l when) is t.registers when _ refl (λ mask. store_value from l when is mask (register f from) refl)
 
     -- ---- returns
-    returns_ok : act_at x.app f.method f.index ≡ Some ReturnVoid → (frames : List Frame) → Below x set_of p.root (start_status x own set_of p) h frames f.method t.e t.lo → IsInside x own set_of (returns x p.at h frames Zero)
-    returns_ok is [] b =
-        let ret : set_of (Ret f.method t.e (status h own)) ≡ true = p.closed.by _ _ (inl (I1_return is)) (t.at, tt) in
+    returns_ok : (answer : Returned) → act_at x.app f.method f.index ≡ Some (Return answer) → (v : Value) (frames : List Frame) → Below x set_of p.root (start_status x own set_of p) h frames f.method t.e t.lo → IsInside x own set_of (returns x p.at h frames v)
+    returns_ok answer is v [] b =
+        let ret : set_of (Ret f.method t.e (status h own)) ≡ true = p.closed.by _ _ (inl (I1_return (ap is_return is))) (t.at, tt) in
         rw p.callback.there (record {
           before = p.at;
           edge = p.edge;
@@ -191,19 +336,42 @@ module _ (x : SubjectParts) (own : ℕ) (set_of : Set) (p : Premises x own set_o
           heap = ok;
           ret = subst₂ (λ m e. set_of (Ret m e (status h own)) ≡ true) b.0 b.1 ret;
         })
-    returns_ok is (g ∷ frames) b = absurd (b.2.call)
+    returns_ok answer is v (g ∷ frames) b = absurd (b.2.call)
+
+    return_ok : (answer : Returned) → act_at x.app f.method f.index ≡ Some (Return answer) → Each (IsInside x own set_of) (return_options x p.at h f rest answer)
+    return_ok returned.Nothing is = (returns_ok returned.Nothing is Zero rest t.below, tt)
+    return_ok returned.Wide is = (returns_ok returned.Wide is Zero rest t.below, tt)
+    return_ok (returned.Register r) is = answered (register f r)
+      where
+        answered : (o : Option Value) → Each (IsInside x own set_of) (return_by x p.at h rest o)
+        answered None = (tt, tt)
+        answered (Some v) = (returns_ok (returned.Register r) is v rest t.below, tt)
+
+    -- ---- an array of arguments
+    fill_ok : (arguments : Args) (kind : TypeNo) → act_at x.app f.method f.index ≡ Some (Fill arguments kind) → Each (IsInside x own set_of) (fill_options x p.at h f rest arguments kind)
+    fill_ok arguments kind is =
+        each_if (IsInside x own set_of) (gives_lock f arguments 0) (Over Escape ∷ []) (answers x p.at h f rest (Object (Some kind.0)) ∷ [])
+        (λ g. absurd (false≢true (sym (subst (λ (o : Option Act). is_escape o row ≡ false) is (p.tagged.no_escape f.method f.index t.entered)) ∙ given_by_tag row f t.lo (length h.locks) h t.registers arguments 0 g)))
+        (λ _.
+        (let same : result_index f ≡ result_cell row = ap pred t.registers.count in (
+          subst (λ r. IsInside x own set_of (writes x p.at h f rest r (Object (Some kind.0)))) (sym same)
+              (write_ok (Fill arguments kind) (result_cell row) tag.Solid (Object (Some kind.0)) is (only_status h own) (λ a. a) tt),
+          tt,
+        )))
 
     -- ---- every instruction
     pub act_ok : (o : Option Act) → act_at x.app f.method f.index ≡ o → Each (IsInside x own set_of) (act_options x p.at h f rest o)
     act_ok None is = (tt, tt)
-    act_ok (Some Nop) is = (quiet_ok x own set_of p h ok f rest f.registers Nop 0 t is (only_status h own) t.registers, tt)
-    act_ok (Some ReturnVoid) is = (returns_ok is rest t.below, tt)
+    act_ok (Some Go) is = go_ok is
+    act_ok (Some (Test value if_zero)) is = test_branch value if_zero is (register f value) refl
+    act_ok (Some (Copy to from wide)) is = copy_ok to from wide is (register f from) (register f (from + 1)) refl refl
     act_ok (Some (TakeResult to)) is = take_ok to is (register f (result_index f)) refl
-    act_ok (Some (WriteZero to)) is = (write_ok (WriteZero to) to tag.Zero Zero is (only_status h own) (λ a. a) refl, tt)
-    act_ok (Some (WriteNonzero to)) is = (write_ok (WriteNonzero to) to tag.Solid Nonzero is (only_status h own) (λ a. a) tt, tt)
-    act_ok (Some (WriteText to)) is = (write_ok (WriteText to) to tag.Solid (text_value x.app) is (only_status h own) (λ a. a) tt, tt)
-    act_ok (Some CheckCast) is = (quiet_ok x own set_of p h ok f rest f.registers CheckCast 0 t is (only_status h own) t.registers, throws_ok x own set_of p h ok f rest CheckCast t is (only_status h own) t.registers)
-    act_ok (Some (ReadStatic to slot)) is = read_ok to slot is
-    act_ok (Some (WriteStatic from slot)) is = write_static from slot is (register f from) refl
-    act_ok (Some (Call usage arguments given)) is = call_ok x own set_of p h ok f rest usage arguments given t is
-    act_ok (Some Other) is = (tt, tt)
+    act_ok (Some (Write to what when)) is = written_ok_by to what when is
+    act_ok (Some (Fill arguments kind)) is = fill_ok arguments kind is
+    act_ok (Some (ReadSlot to slot when)) is = read_ok to slot when is
+    act_ok (Some (WriteSlot from slot when)) is = write_slot from slot when is
+    act_ok (Some (Give from when)) is = give_ok from when is
+    act_ok (Some (Check when)) is = check_ok when is
+    act_ok (Some (Throw object)) is = throw_ok object is (register f object) refl
+    act_ok (Some (Return answer)) is = return_ok answer is
+    act_ok (Some (Call by usage arguments given)) is = call_ok x own set_of p h ok f rest by usage arguments given t is

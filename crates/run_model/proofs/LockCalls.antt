@@ -9,26 +9,27 @@ use Rattle.app_model.specs.declared.tag.Tag.{Tag}
 use Rattle.app_model.specs.declared.tag.Tag.TheVariants as tag
 use Rattle.app_model.specs.declared.lock_use.LockUse.{LockUse}
 use Rattle.app_model.specs.declared.lock_use.LockUse.TheVariants.{Plain, Make, Acquire, Release, IsHeld, Mode, Wrong}
-use Rattle.flow_model.specs.declared.act.Gives.{Gives}
-use Rattle.flow_model.specs.declared.act.Act.TheVariants.{Call}
+use Rattle.act_model.specs.declared.act.By.{By}
+use Rattle.act_model.specs.declared.act.Gives.{Gives}
+use Rattle.act_model.specs.declared.act.Act.TheVariants.{Call}
 use Rattle.dalvik.specs.Calls.{receiver_of, argument_of}
-use Rattle.flow_model.specs.Acts.{act_at}
-use Rattle.flow_model.specs.Changes.{tag_in, call_change, held_change, held_tag, result_tag, thrown}
+use Rattle.act_model.specs.Acts.{act_at}
+use Rattle.act_model.specs.Changes.{tag_in, thrown, held_change, call_change, result_tag, held_tag}
 use Rattle.flow_model.specs.Derived.{Set}
-use Rattle.flow_model.specs.Entries.{site_at}
+use Rattle.app_model.specs.Sites.{site_at}
 use Rattle.app_model.specs.Masks.{in_mask}
-use Rattle.flow_model.specs.Passes.{passes, only, lock_call_passes, lock_call_throws}
+use Rattle.flow_model.specs.Passes.{passes, lock_call_passes, lock_call_throws, nullness}
 use Rattle.flow_model.specs.Status.{acquire_passes, release_passes, release_throws, is_held_passes, mode_passes}
-use Rattle.flow_model.specs.Subject.{SubjectParts}
-use Rattle.run_model.specs.Heaps.{Value, Zero, Heap, Lock, cell, held_value, is_lost, is_zero, lock_at, status, status_of, with_count}
+use Rattle.app_model.specs.Subject.{SubjectParts, slot_count}
+use Rattle.run_model.specs.Heaps.{Value, Zero, Heap, Lock, cell, held_value, is_lost, is_null, lock_at, status, status_of, with_count}
 use Rattle.run_model.specs.Machine.{Frame, register, result_index, answers, release_options, mode_options, operation_options}
 use Rattle.run_model.specs.Relation.{AreTagged, Each, IsHeap, IsInside, Means, held_in}
 use Rattle.run_model.proofs.Rows.{some, acquire_ok, release_ok, release_all_ok, release_zero, is_held_ok}
 use Rattle.run_model.proofs.Heaps.{cell_same, changed_status, changed_other, changed_ok, changed_loose, changed_apart, changed_count, status_at}
 use Rattle.run_model.proofs.Meanings.{KeepsBut, nowhere, only_at, held_same, means_counted, means_kept, means_thrown}
 use Rattle.run_model.proofs.Registers.{tagged_map, tagged_set, tagged_read}
-use Rattle.run_model.proofs.Masks.{column_ok, in_if, mode_ok}
-use Rattle.run_model.proofs.Steps.{Premises, Top, row_of, goes_ok, throws_ok, only_status}
+use Rattle.run_model.proofs.Masks.{by_own, column_ok, mode_ok}
+use Rattle.run_model.proofs.Steps.{Premises, Top, out_of, row_of, goes_ok, throws_ok, only_status}
 
 module _ (x : SubjectParts) (own : ℕ) (set_of : Set) (p : Premises x own set_of) where
   abbrev pub receiver_tag : Frame → Args → Tag
@@ -38,25 +39,25 @@ module _ (x : SubjectParts) (own : ℕ) (set_of : Set) (p : Premises x own set_o
   argument_tag f arguments = tag_in (row_of x own set_of p f) (argument_of arguments)
 
   -- a call that answers
-  pub answer_ok : (h h' : Heap) (f : Frame) (rest : List Frame) (usage : LockUse) (arguments : Args) (given : Gives) (v : Value) (t : Top x own set_of p h f rest) → act_at x.app f.method f.index ≡ Some (Call usage arguments given) → IsHeap (length x.app.locks) h' → length h.locks ≤ length h'.locks
-      → in_mask (passes own (Call usage arguments given) (row_of x own set_of p f) 0 (status h own)) (status h' own) ≡ true → AreTagged (thrown (Call usage arguments given) (row_of x own set_of p f)) f.registers t.lo (length h'.locks) h'
+  pub answer_ok : (h h' : Heap) (f : Frame) (rest : List Frame) (by : By) (usage : LockUse) (arguments : Args) (given : Gives) (v : Value) (t : Top x own set_of p h f rest) → act_at x.app f.method f.index ≡ Some (Call by usage arguments given) → IsHeap (slot_count x) h' → length h.locks ≤ length h'.locks
+      → in_mask (passes own (Call by usage arguments given) (row_of x own set_of p f) (out_of x own set_of p f) 0 (status h own)) (status h' own) ≡ true → AreTagged (thrown (Call by usage arguments given) (row_of x own set_of p f)) f.registers t.lo (length h'.locks) h'
       → Means (result_tag (site_at x.app f.method f.index) usage given (receiver_tag f arguments)) v t.lo (length h'.locks) h' → IsInside x own set_of (answers x p.at h' f rest v)
-  answer_ok h h' f rest usage arguments given v t is ok le mask tagged means =
-      let row = thrown (Call usage arguments given) (row_of x own set_of p f) in
+  answer_ok h h' f rest by usage arguments given v t is ok le mask tagged means =
+      let row = thrown (Call by usage arguments given) (row_of x own set_of p f) in
       let result = result_tag (site_at x.app f.method f.index) usage given (receiver_tag f arguments) in
       let written = tagged_set row f.registers t.lo (length h'.locks) h' tagged (result_index f) result v means in
-      goes_ok x own set_of p h h' f rest (set f.registers (result_index f) v) (Call usage arguments given) 0 t ok is le mask
+      goes_ok x own set_of p h h' f rest (set f.registers (result_index f) v) (Call by usage arguments given) 0 t ok is le mask
       (subst (λ (r : ℕ). AreTagged (set row r result) (set f.registers (result_index f) v) t.lo (length h'.locks) h') (ap pred t.registers.count) written)
 
   -- a call that throws
-  pub thrown_ok : (h : Heap) (f : Frame) (rest : List Frame) (usage : LockUse) (arguments : Args) (given : Gives) (t : Top x own set_of p h f rest) → AreTagged (thrown (Call usage arguments given) (row_of x own set_of p f)) f.registers t.lo (length h.locks) h
-  thrown_ok h f rest usage arguments given t =
+  pub thrown_ok : (h : Heap) (f : Frame) (rest : List Frame) (by : By) (usage : LockUse) (arguments : Args) (given : Gives) (t : Top x own set_of p h f rest) → AreTagged (thrown (Call by usage arguments given) (row_of x own set_of p f)) f.registers t.lo (length h.locks) h
+  thrown_ok h f rest by usage arguments given t =
       tagged_map (row_of x own set_of p f) f.registers t.lo (length h.locks) h t.registers (call_change usage (receiver_tag f arguments)) (length h.locks) h (λ u v m. means_thrown v t.lo (length h.locks) h usage (receiver_tag f arguments) u m)
 
   -- ---- the lock that field k holds changes
-  module _ (h : Heap) (ok : IsHeap (length x.app.locks) h) (f : Frame) (rest : List Frame) (arguments : Args) (given : Gives) (t : Top x own set_of p h f rest) (k : LockNo) (i : ℕ) (e : receiver_tag f arguments ≡ tag.Field k) (c : cell h k.0 ≡ Some i) where
+  module _ (h : Heap) (ok : IsHeap (slot_count x) h) (f : Frame) (rest : List Frame) (by : By) (arguments : Args) (given : Gives) (t : Top x own set_of p h f rest) (k : LockNo) (i : ℕ) (e : receiver_tag f arguments ≡ tag.Field k) (c : cell h k.0 ≡ Some i) where
     abbrev number : ℕ
-    number = length x.app.locks
+    number = slot_count x
 
     abbrev row : List Tag
     row = row_of x own set_of p f
@@ -83,47 +84,47 @@ module _ (x : SubjectParts) (own : ℕ) (set_of : Set) (p : Premises x own set_o
 
     -- the mask of a column
     by_column : (y : Lock) → y.owner ≡ (lock_at h i).owner → (column : ℕ → ℕ) → in_mask (column (status_of (is_lost h k.0) (some (lock_at h i).count (lock_at h i).counted))) (status_of (is_lost h k.0) (some y.count y.counted)) ≡ true
-        → in_mask (lock_call_passes own column (receiver_tag f arguments) (status h own)) (status (with_lock y) own) ≡ true
+        → in_mask (lock_call_passes column (nullness own (receiver_tag f arguments)) (status h own)) (status (with_lock y) own) ≡ true
     by_column y o column table =
-        subst (λ (q : Tag). in_mask (lock_call_passes own column q (status h own)) (status (with_lock y) own) ≡ true) (sym e)
-        (column_ok own h (with_lock y) k.0 column i y.count y.counted c (changed_status number h k.0 i y ok c o) (λ ne. changed_other number h k.0 i y ok c o own ne) table)
+        subst (λ (q : Tag). in_mask (lock_call_passes column (nullness own q) (status h own)) (status (with_lock y) own) ≡ true) (sym e)
+        (column_ok own h (with_lock y) k column i y.count y.counted c (changed_status number h k.0 i y ok c o) (λ ne. changed_other number h k.0 i y ok c o own ne) table)
 
     abbrev recounted : ℕ → Lock
     recounted n = record { owner = (lock_at h i).owner; count = n; counted = (lock_at h i).counted; site = (lock_at h i).site }
 
-    acquire_step : act_at x.app f.method f.index ≡ Some (Call Acquire arguments given) → Each (IsInside x own set_of) (operation_options x p.at h f rest Acquire arguments i)
+    acquire_step : act_at x.app f.method f.index ≡ Some (Call by Acquire arguments given) → Each (IsInside x own set_of) (operation_options x p.at h f rest Acquire arguments i)
     acquire_step is =
         let n = (lock_at h i).count in
         let y = recounted (suc n) in
-        (answer_ok h (with_lock y) f rest Acquire arguments given Zero t is (changed_ok number h k.0 i y ok c refl) (longer y) (by_column y refl acquire_passes (acquire_ok (is_lost h k.0) n (lock_at h i).counted)) (counted_tags y refl) refl, tt)
+        (answer_ok h (with_lock y) f rest by Acquire arguments given Zero t is (changed_ok number h k.0 i y ok c refl) (longer y) (by_column y refl acquire_passes (acquire_ok (is_lost h k.0) n (lock_at h i).counted)) (counted_tags y refl) refl, tt)
 
-    release_answers : act_at x.app f.method f.index ≡ Some (Call Release arguments given) → (n : ℕ) → in_mask (release_passes (status_of (is_lost h k.0) (some (lock_at h i).count (lock_at h i).counted))) (status_of (is_lost h k.0) (some n (lock_at h i).counted)) ≡ true
+    release_answers : act_at x.app f.method f.index ≡ Some (Call by Release arguments given) → (n : ℕ) → in_mask (release_passes (status_of (is_lost h k.0) (some (lock_at h i).count (lock_at h i).counted))) (status_of (is_lost h k.0) (some n (lock_at h i).counted)) ≡ true
         → Each (IsInside x own set_of) (answers x p.at (with_count h i n) f rest Zero ∷ [])
     release_answers is n table =
         let y = recounted n in
-        (answer_ok h (with_lock y) f rest Release arguments given Zero t is (changed_ok number h k.0 i y ok c refl) (longer y) (by_column y refl release_passes table) (counted_tags y refl) refl, tt)
+        (answer_ok h (with_lock y) f rest by Release arguments given Zero t is (changed_ok number h k.0 i y ok c refl) (longer y) (by_column y refl release_passes table) (counted_tags y refl) refl, tt)
 
-    release_by : act_at x.app f.method f.index ≡ Some (Call Release arguments given) → (b : Bool) (n : ℕ) → (lock_at h i).counted ≡ b → (lock_at h i).count ≡ n → Each (IsInside x own set_of) (release_options x p.at h f rest i b n)
+    release_by : act_at x.app f.method f.index ≡ Some (Call by Release arguments given) → (b : Bool) (n : ℕ) → (lock_at h i).counted ≡ b → (lock_at h i).count ≡ n → Each (IsInside x own set_of) (release_options x p.at h f rest i b n)
     release_by is true zero b z =
-        throws_ok x own set_of p h ok f rest (Call Release arguments given) t is
-        (subst (λ (q : Tag). in_mask (lock_call_throws own release_throws q (status h own)) (status h own) ≡ true) (sym e)
-        (in_if (k.0 == own) (release_throws (status h own)) (only (status h own)) (status h own)
+        throws_ok x own set_of p h ok f rest (Call by Release arguments given) t is
+        (subst (λ (q : Tag). in_mask (lock_call_throws release_throws (nullness own q) (status h own)) (status h own) ≡ true) (sym e)
+        (by_own (k.0 == own) (λ n. lock_call_throws release_throws n (status h own)) (status h own)
         (λ same.
         (let holds : cell h own ≡ Some i = ap (cell h) (sym (eqb-true k.0 own same)) ∙ c in
         let now : status h own ≡ status_of (is_lost h own) (some 0 true) = status_at h own (Some i) holds ∙ ap (λ m. status_of (is_lost h own) (some m (lock_at h i).counted)) z ∙ ap (λ d. status_of (is_lost h own) (some 0 d)) b in
         rw now (release_zero (is_lost h own))))
-        (λ _. only_status h own)))
-        (thrown_ok h f rest Release arguments given t)
+        (only_status h own)))
+        (thrown_ok h f rest by Release arguments given t)
     release_by is true (suc n) b z = release_answers is n (rw (b, z) (release_ok (is_lost h k.0) n))
     release_by is false n b z = release_answers is 0 (rw (b, z) (release_all_ok (is_lost h k.0) n))
 
-    is_held_step : act_at x.app f.method f.index ≡ Some (Call IsHeld arguments given) → Each (IsInside x own set_of) (operation_options x p.at h f rest IsHeld arguments i)
+    is_held_step : act_at x.app f.method f.index ≡ Some (Call by IsHeld arguments given) → Each (IsInside x own set_of) (operation_options x p.at h f rest IsHeld arguments i)
     is_held_step is =
         let answer = held_value (lock_at h i).count in
         let table = is_held_ok (is_lost h k.0) (lock_at h i).count (lock_at h i).counted in
-        let mask = subst (λ (q : Tag). in_mask (lock_call_passes own is_held_passes q (status h own)) (status h own) ≡ true) (sym e) (column_ok own h h k.0 is_held_passes i (lock_at h i).count (lock_at h i).counted c (status_at h k.0 (Some i) c) (λ ne. refl) table) in
+        let mask = subst (λ (q : Tag). in_mask (lock_call_passes is_held_passes (nullness own q) (status h own)) (status h own) ≡ true) (sym e) (column_ok own h h k is_held_passes i (lock_at h i).count (lock_at h i).counted c (status_at h k.0 (Some i) c) (λ ne. refl) table) in
         let means = subst (λ (q : Tag). Means (held_tag q) answer t.lo (length h.locks) h) (sym e) (ap (held_in h) (sym c)) in
-        (answer_ok h h f rest IsHeld arguments given answer t is ok (omega arith) mask (thrown_ok h f rest IsHeld arguments given t) means, tt)
+        (answer_ok h h f rest by IsHeld arguments given answer t is ok (omega arith) mask (thrown_ok h f rest by IsHeld arguments given t) means, tt)
 
     -- ---- setReferenceCounted
     abbrev remade : Bool → Lock
@@ -137,16 +138,16 @@ module _ (x : SubjectParts) (own : ℕ) (set_of : Set) (p : Premises x own set_o
       held = λ l off. held_same h (with_lock (remade b)) (cell h l) (λ j is. changed_count number h k.0 i (remade b) ok c refl refl j);
     }
 
-    mode_step : act_at x.app f.method f.index ≡ Some (Call Mode arguments given) → (o : Option Value) → register f (argument_of arguments) ≡ o → Each (IsInside x own set_of) (mode_options x p.at h f rest i o)
+    mode_step : act_at x.app f.method f.index ≡ Some (Call by Mode arguments given) → (o : Option Value) → register f (argument_of arguments) ≡ o → Each (IsInside x own set_of) (mode_options x p.at h f rest i o)
     mode_step is None there = (tt, tt)
     mode_step is (Some v) there =
-        let y = remade (not (is_zero v)) in
+        let y = remade (not (is_null v)) in
         let means = tagged_read row f.registers t.lo (length h.locks) h t.registers (argument_of arguments) v there in
         let table = mode_ok own t.lo (length h.locks) h (argument_tag f arguments) v means (is_lost h k.0) (lock_at h i).count (lock_at h i).counted in
-        let tags = tagged_map row f.registers t.lo (length h.locks) h t.registers (call_change Mode (receiver_tag f arguments)) (length (with_lock y).locks) (with_lock y) (λ u w m. means_kept t.lo (length h.locks) (length (with_lock y).locks) h (with_lock y) (mode_keeps (not (is_zero v))) u w m) in
-        (answer_ok h (with_lock y) f rest Mode arguments given Zero t is (changed_ok number h k.0 i y ok c refl) (longer y) (by_column y refl (mode_passes (argument_tag f arguments)) table) tags refl, tt)
+        let tags = tagged_map row f.registers t.lo (length h.locks) h t.registers (call_change Mode (receiver_tag f arguments)) (length (with_lock y).locks) (with_lock y) (λ u w m. means_kept t.lo (length h.locks) (length (with_lock y).locks) h (with_lock y) (mode_keeps (not (is_null v))) u w m) in
+        (answer_ok h (with_lock y) f rest by Mode arguments given Zero t is (changed_ok number h k.0 i y ok c refl) (longer y) (by_column y refl (mode_passes (argument_tag f arguments)) table) tags refl, tt)
 
-    pub operation_ok : (usage : LockUse) → act_at x.app f.method f.index ≡ Some (Call usage arguments given) → Each (IsInside x own set_of) (operation_options x p.at h f rest usage arguments i)
+    pub operation_ok : (usage : LockUse) → act_at x.app f.method f.index ≡ Some (Call by usage arguments given) → Each (IsInside x own set_of) (operation_options x p.at h f rest usage arguments i)
     operation_ok Acquire is = acquire_step is
     operation_ok Release is = release_by is (lock_at h i).counted (lock_at h i).count refl refl
     operation_ok IsHeld is = is_held_step is

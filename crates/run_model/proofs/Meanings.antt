@@ -7,7 +7,7 @@ use Rattle.app_model.specs.declared.tag.Tag.{Tag}
 use Rattle.app_model.specs.declared.tag.Tag.TheVariants as tag
 use Rattle.app_model.specs.declared.lock_use.LockUse.{LockUse}
 use Rattle.app_model.specs.declared.lock_use.LockUse.TheVariants.{Plain, Make, Acquire, Release, IsHeld, Mode, Wrong}
-use Rattle.flow_model.specs.Changes.{call_change, held_change, without_held, stored_change}
+use Rattle.act_model.specs.Changes.{stored_change, held_change, call_change, without_held}
 use Rattle.flow_model.specs.Scope.{may_be_lock, escapes_as_receiver, may_be_stored}
 use Rattle.act_model.specs.Tags.{Under, itself, bot_all, zero_any, solid_any, held_any, all_mixed}
 use Rattle.run_model.specs.Heaps.{Value, Zero, Nonzero, Object, LockRef, Heap, Lock, cell, cell_value, held_value, is_lock, lock_at}

@@ -1,11 +1,11 @@
 -- How the registers of a frame keep their tags.
-use Rattle.std.proofs.Common.{Some, ◌≡◌, ℕ, pred, ◌<◌, List, length, map, get_or, set, slice_get, sym, ap, ◌∙◌, ⊎_elim, arith, subst}
+use Rattle.std.proofs.Common.{Some, Bool, true, false, ◌≡◌, ℕ, pred, ◌+◌, ◌<◌, List, length, map, get_or, set, slice_get, sym, ap, ◌∙◌, ⊎_elim, arith, subst}
 use Rattle.std.proofs.lemmas.Bool.{cases_eq}
 use Rattle.std.proofs.lemmas.List.{get_or-set_same, get_or-set_other, length-set, get_or-map, length-map}
 use Rattle.std.proofs.lemmas.Option.{get_or_from_slice_get, slice_get_within}
 use Rattle.app_model.specs.declared.tag.Tag.{Tag}
 use Rattle.app_model.specs.declared.tag.Tag.TheVariants as tag
-use Rattle.flow_model.specs.Changes.{tag_in}
+use Rattle.act_model.specs.Changes.{put, tag_in}
 use Rattle.run_model.specs.Heaps.{Value, Zero, Heap}
 use Rattle.run_model.specs.Relation.{Means, AreTagged}
 use Rattle.run_model.specs.Tagged.{IsUnder}
@@ -72,3 +72,9 @@ module _ (row : List Tag) (values : List Value) (lo hi : ℕ) (h : Heap) (ok : A
   -- the result cell
   pub result_there : pred (length values) ≡ pred (length row)
   result_there = ap pred ok.count
+
+-- a register, or it and the next one
+pub tagged_put : (row : List Tag) (values : List Value) (lo hi : ℕ) (h : Heap) → AreTagged row values lo hi h → (wide : Bool) (r : ℕ) (t u : Tag) (v w : Value) → Means t v lo hi h → Means u w lo hi h
+    → AreTagged (put wide row r t u) (put wide values r v w) lo hi h
+tagged_put row values lo hi h ok false r t u v w vok wok = tagged_set row values lo hi h ok r t v vok
+tagged_put row values lo hi h ok true r t u v w vok wok = tagged_set (set row r t) (set values r v) lo hi h (tagged_set row values lo hi h ok r t v vok) (r + 1) u w wok

@@ -2,9 +2,8 @@
 use Rattle.std.proofs.Common.{◌≡◌, ℕ, zero, suc, Bool, true, false, Option, Some, None, refl}
 use Rattle.std.specs.Prelude.{◌||◌}
 use Rattle.app_model.specs.Masks.{in_mask, is_held}
-use Rattle.flow_model.specs.Passes.{only, only_if}
-use Rattle.flow_model.specs.Rules.{cleared}
-use Rattle.flow_model.specs.Status.{acquire_passes, acquire_throws, release_passes, release_throws, is_held_passes, call_throws, uncounted_passes, counted_passes, either_passes, store_passes, null_passes, zero_if_null}
+use Rattle.flow_model.specs.Passes.{only_if}
+use Rattle.flow_model.specs.Status.{acquire_passes, acquire_throws, release_passes, release_throws, is_held_passes, call_throws, uncounted_passes, counted_passes, either_passes, store_passes, null_passes, zero_if_null, nonzero_if_null, zero_if_held, nonzero_if_held, reset, only}
 use Rattle.run_model.specs.Heaps.{Counter, status_of, status_by, is_positive}
 
 abbrev pub some : ℕ → Bool → Option Counter
@@ -116,6 +115,38 @@ pub null_test_none : (b : Bool) → in_mask (only_if (in_mask zero_if_null (stat
 null_test_none true = refl
 null_test_none false = refl
 
+-- ---- tests of null, and of isHeld
+abbrev pub null_mask : Option Counter → ℕ
+null_mask None = zero_if_null
+null_mask (Some c) = nonzero_if_null
+
+pub null_branch_ok : (b : Bool) (o : Option Counter) → in_mask (only_if (in_mask (null_mask o) (status_of b o)) (status_of b o)) (status_of b o) ≡ true
+null_branch_ok true None = refl
+null_branch_ok true (Some c) = refl
+null_branch_ok false None = refl
+null_branch_ok false (Some c) = by_counter (λ s. in_mask (only_if (in_mask nonzero_if_null s) s) s ≡ true) refl refl refl refl refl refl c.counted c.count
+
+abbrev pub held_mask : (above : Bool) → ℕ
+held_mask true = nonzero_if_held
+held_mask false = zero_if_held
+
+pub held_branch_ok : (b : Bool) (o : Option Counter) → in_mask (only_if (in_mask (held_mask (is_above o)) (status_of b o)) (status_of b o)) (status_of b o) ≡ true
+held_branch_ok true o = lost (is_above o)
+  where
+    lost : (above : Bool) → in_mask (only_if (in_mask (held_mask above) 7) 7) 7 ≡ true
+    lost true = refl
+    lost false = refl
+held_branch_ok false None = refl
+held_branch_ok false (Some c) = counter c.counted c.count
+  where
+    counter : (d : Bool) (n : ℕ) → in_mask (only_if (in_mask (held_mask (is_positive n)) (status_by d n)) (status_by d n)) (status_by d n) ≡ true
+    counter true zero = refl
+    counter true (suc zero) = refl
+    counter true (suc (suc zero)) = refl
+    counter true (suc (suc (suc n))) = refl
+    counter false zero = refl
+    counter false (suc n) = refl
+
 -- stores, and a clearing
 module _ (P : ℕ → ℕ → Type 0) (lost : P 7 7) (a : P 0 0) (c0 : P 1 0) (c1 : P 2 7) (c2 : P 3 7) (ct : P 4 7) (u0 : P 5 0) (u1 : P 6 7) where
   by_loss : (b : Bool) (o : Option Counter) → P (status_of b o) (status_of (b || is_above o) None)
@@ -134,8 +165,8 @@ module _ (P : ℕ → ℕ → Type 0) (lost : P 7 7) (a : P 0 0) (c0 : P 1 0) (c
 pub null_ok : (b : Bool) (o : Option Counter) → in_mask (null_passes (status_of b o)) (status_of (b || is_above o) None) ≡ true
 null_ok b o = by_loss (λ s t. in_mask (null_passes s) t ≡ true) refl refl refl refl refl refl refl refl b o
 
-pub cleared_ok : (b : Bool) (o : Option Counter) → cleared (status_of b o) ≡ status_of (b || is_above o) None
-cleared_ok b o = by_loss (λ s t. cleared s ≡ t) refl refl refl refl refl refl refl refl b o
+pub reset_ok : (b : Bool) (o : Option Counter) → reset (status_of b o) ≡ status_of (b || is_above o) None
+reset_ok b o = by_loss (λ s t. reset s ≡ t) refl refl refl refl refl refl refl refl b o
 
 pub store_ok : (b : Bool) (o : Option Counter) → in_mask (store_passes (status_of b o)) (status_of (b || is_above o) (some 0 true)) ≡ true
 store_ok true o = refl

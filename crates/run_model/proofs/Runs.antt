@@ -1,11 +1,12 @@
 -- Every step keeps the relation, and so does every run.
 use Rattle.std.proofs.Common.{Option, get_or, zero, suc, replicate, None, ◌≡◌, ℕ, ◌<◌, ◌%◌, List, [], ◌∷◌, length, refl, sym, inl, inr, ◌∙◌}
 use Rattle.std.proofs.lemmas.List.{length-replicate, get_or-replicate}
-use Rattle.flow_model.specs.Acts.{act_at}
+use Rattle.act_model.specs.Acts.{act_at}
 use Rattle.flow_model.specs.Derived.{Set, IsClosed}
 use Rattle.flow_model.specs.Policy.{MeetsPolicy}
-use Rattle.flow_model.specs.Rules.{Between, Inner, Rules, V1}
-use Rattle.flow_model.specs.Subject.{SubjectParts, status_masks}
+use Rattle.flow_model.specs.Rules.{Between, Carries, Inner, Rules, V1}
+use Rattle.app_model.specs.Subject.{SubjectParts, slot_count}
+use Rattle.flow_model.specs.Subject.{status_masks}
 use Rattle.run_model.specs.Heaps.{Heap, cell, is_lost, lock_at, status}
 use Rattle.run_model.specs.Machine.{Callback, Frame, State, Idle, Running, AtEnd, Over, options_of, run_from, run_of, start_of, step}
 use Rattle.run_model.specs.Relation.{Each, IsHeap, IsIdle, IsInside, IsSound}
@@ -51,11 +52,11 @@ steps_law x l set tg cl at h (f ∷ rest) ok =
     act_ok x l set (record { tagged = tg; closed = cl; at = at; edge = ok.edge; root = ok.root; s0 = ok.s0; callback = ok.callback }) h ok.heap f rest ok.stack (act_at x.app f.method f.index) refl
 
 -- ---- all rules
-module _ (x : SubjectParts) (l : ℕ) (set : Set) (tg : IsTagged x) (lt : l < length x.app.locks) (cl : IsClosed (Rules x l) set) (mp : MeetsPolicy x l set) where
+module _ (x : SubjectParts) (l : ℕ) (set : Set) (tg : IsTagged x) (lt : l < slot_count x) (cl : IsClosed (Rules x l) set) (mp : MeetsPolicy x l set) where
   inner : IsClosed (Inner x l (status_masks x l)) set
   inner = record { by = λ needs f r has. cl.by needs f (inl r) has }
 
-  outer : IsClosed (Between x l) set
+  outer : IsClosed (Between x (Carries x l)) set
   outer = record { by = λ needs f r has. cl.by needs f (inr r) has }
 
   inside_sound : (s : State) → IsInside x l set s → IsSound x l set s
@@ -81,9 +82,9 @@ module _ (x : SubjectParts) (l : ℕ) (set : Set) (tg : IsTagged x) (lt : l < le
   start_ok = record {
     views = record {
       count = length-replicate (length x.list) 0;
-      each = λ c within. rw (empty_status (length x.app.locks) l, get_or-replicate {A = ℕ} (length x.list) c 0 0 within) (outer.by _ _ (V1 within) tt);
+      each = λ c within. rw (empty_status (slot_count x) l, get_or-replicate {A = ℕ} (length x.list) c 0 0 within) (outer.by _ _ (V1 within) tt);
     };
-    heap = empty_heap (length x.app.locks);
+    heap = empty_heap (slot_count x);
   }
 
   stands : (s : State) → IsSound x l set s → StandsWell x l s
@@ -98,7 +99,7 @@ module _ (x : SubjectParts) (l : ℕ) (set : Set) (tg : IsTagged x) (lt : l < le
   leaves : (s : State) → IsSound x l set s → LeavesNoneHeld x l s
   leaves (Idle states h) ok = tt
   leaves (Running at h frames) ok = tt
-  leaves (AtEnd at h) ok = λ edge there exit answers holds. false≢true (sym (ok.1 edge there exit answers) ∙ (held_exactly h l (length x.app.locks) ok.0.heap).1 holds)
+  leaves (AtEnd at h) ok = λ edge there exit answers holds. false≢true (sym (ok.1 edge there exit answers) ∙ (held_exactly h l (slot_count x) ok.0.heap).1 holds)
   leaves (Over why) ok = tt
 
   pub counts_law : (choices : List ℕ) → LeavesNoneHeld x l (run_of x choices)

@@ -1,27 +1,33 @@
 -- What carries every instruction: on to a successor, and a throw.
-use Rattle.std.proofs.Common.{◌≡◌, ℕ, ◌≤◌, true, List, [], ◌∷◌, map, length, Option, Some, None, refl, sym, inl, ⊎_elim, arith, subst, slice_get}
+use Rattle.std.proofs.Common.{◌≡◌, ℕ, ◌<◌, ◌≤◌, Bool, true, List, [], ◌∷◌, map, length, Option, Some, None, refl, sym, inl, ⊎_elim, arith, subst, slice_get}
 use Rattle.std.proofs.lemmas.Bool.{cases_Bool}
 use Rattle.dalvik.specs.declared.body.Place.{Place}
 use Rattle.app_model.specs.declared.component.Edge.{Edge}
 use Rattle.app_model.specs.declared.tag.Tag.{Tag}
 use Rattle.app_model.specs.Words.{place_at, successor_at, handler_at, handler_of, leaves_at}
-use Rattle.flow_model.specs.declared.act.Act.{Act}
-use Rattle.flow_model.specs.declared.act.Act.TheVariants.{Nop, ReturnVoid, TakeResult, WriteZero, WriteNonzero, WriteText, CheckCast, ReadStatic, WriteStatic, Call, Other}
+use Rattle.act_model.specs.declared.act.Act.{Act}
+use Rattle.act_model.specs.declared.act.Act.TheVariants.{Go, Test, Copy, TakeResult, Write, Fill, ReadSlot, WriteSlot, Give, Check, Throw, Return, Call}
+use Rattle.act_model.specs.declared.act.Throws.{Throws}
+use Rattle.act_model.specs.declared.act.Throws.TheVariants.{Never, ByChoice, WhereZero}
 use Rattle.flow_model.proofs.MaskLaws.{IsIn-zero}
 use Rattle.std.proofs.Common.{get_or}
-use Rattle.flow_model.specs.Acts.{act_at}
-use Rattle.flow_model.specs.Changes.{after, thrown}
+use Rattle.act_model.specs.Acts.{act_at}
+use Rattle.act_model.specs.Changes.{after, thrown}
 use Rattle.flow_model.specs.Derived.{Set, IsClosed}
-use Rattle.flow_model.specs.Entries.{site_at}
+use Rattle.app_model.specs.Sites.{site_at}
 use Rattle.app_model.specs.Facts.{At}
 use Rattle.app_model.specs.Masks.{in_mask}
-use Rattle.flow_model.specs.Passes.{only, passes, throws}
+use Rattle.flow_model.specs.Status.{only}
+use Rattle.flow_model.specs.Passes.{passes, throws, throws_by}
 use Rattle.flow_model.specs.Rules.{Inner, I1, I2, I3, entered}
-use Rattle.flow_model.specs.Subject.{SubjectParts, status_masks, own_operation, passes_by, throws_by}
+use Rattle.app_model.specs.Subject.{SubjectParts, outside_at, row_at, slot_count}
+use Rattle.app_model.proofs.Cells.{length-row_at}
+use Rattle.flow_model.specs.Subject.{status_masks, own_operation, mask_passes, mask_throws}
 use Rattle.run_model.specs.Heaps.{Value, Zero, Heap, status, is_lost, counter_at, cell}
 use Rattle.run_model.specs.Machine.{Callback, Frame, Running, handlers_of, goes_to, goes_on, moved, throws_from}
 use Rattle.run_model.specs.Relation.{AreTagged, Below, Each, IsCallback, IsHeap, IsInside, IsTop, Means}
-use Rattle.run_model.specs.Tagged.{IsLive, IsTagged, can_throw, leads_on}
+use Rattle.run_model.specs.Tagged.{IsTagged}
+use Rattle.flow_model.specs.TagFlow.{IsLive, can_throw, leads_on, may_throw}
 use Rattle.run_model.proofs.Members.{each_append, each_if, each_map_at}
 use Rattle.run_model.proofs.Rows.{only_ok}
 use Rattle.run_model.proofs.Heaps.{status_is}
@@ -52,7 +58,11 @@ only_status h l = rw (status_is h l) (only_ok (is_lost h l) (counter_at h (cell 
 module _ (x : SubjectParts) (own : ℕ) (set : Set) (p : Premises x own set) where
   -- the tags before a frame's instruction, and the status at which its callback was entered
   abbrev pub row_of : Frame → List Tag
-  row_of f = x.tags f.method f.index
+  row_of f = row_at x f.method f.index
+
+  -- whether a call there may lead outside
+  abbrev pub out_of : Frame → Bool
+  out_of f = outside_at x f.method f.index
 
   abbrev pub start_status : ℕ
   start_status = entered x own p.at.component p.edge p.s0
@@ -62,43 +72,48 @@ module _ (x : SubjectParts) (own : ℕ) (set : Set) (p : Premises x own set) whe
 
   -- an instruction that is reached, and what it can do where a mask lets it
   live : (h : Heap) (f : Frame) (rest : List Frame) → Top h f rest → IsLive (row_of f)
-  live h f rest t r lt bot = subst (λ (q : Tag). Means q (get_or f.registers r Zero) t.lo (length h.locks) h) bot (t.registers.each r lt)
+  live h f rest t = record {
+    register = 0;
+    is = λ bot.
+        let wide : 0 < length (row_of f) = omega (arith, length-row_at x.tags f.method f.index) in
+        subst (λ (q : Tag). Means q (get_or f.registers 0 Zero) t.lo (length h.locks) h) bot (t.registers.each 0 wide);
+  }
 
-  leads : (a : Act) (row : List Tag) (k s t : ℕ) → in_mask (passes own a row k s) t ≡ true → leads_on a ≡ true
-  leads Nop row k s t mask = refl
-  leads ReturnVoid row k s t mask = absurd (IsIn-zero t mask)
-  leads (TakeResult to) row k s t mask = refl
-  leads (WriteZero to) row k s t mask = refl
-  leads (WriteNonzero to) row k s t mask = refl
-  leads (WriteText to) row k s t mask = refl
-  leads CheckCast row k s t mask = refl
-  leads (ReadStatic to slot) row k s t mask = refl
-  leads (WriteStatic from slot) row k s t mask = refl
-  leads (Call usage arguments given) row k s t mask = refl
-  leads Other row k s t mask = absurd (IsIn-zero t mask)
+  leads : (a : Act) (row : List Tag) (out : Bool) (k s t : ℕ) → in_mask (passes own a row out k s) t ≡ true → leads_on a ≡ true
+  leads Go row out k s t mask = refl
+  leads (Throw object) row out k s t mask = absurd (IsIn-zero t mask)
+  leads (Return answer) row out k s t mask = absurd (IsIn-zero t mask)
+  leads _ row out k s t mask = refl
 
-  throwing : (a : Act) (row : List Tag) (s t : ℕ) → in_mask (throws own a row s) t ≡ true → can_throw a ≡ true
-  throwing CheckCast row s t mask = refl
-  throwing (Call usage arguments given) row s t mask = refl
-  throwing Nop row s t mask = absurd (IsIn-zero t mask)
-  throwing ReturnVoid row s t mask = absurd (IsIn-zero t mask)
-  throwing (TakeResult to) row s t mask = absurd (IsIn-zero t mask)
-  throwing (WriteZero to) row s t mask = absurd (IsIn-zero t mask)
-  throwing (WriteNonzero to) row s t mask = absurd (IsIn-zero t mask)
-  throwing (WriteText to) row s t mask = absurd (IsIn-zero t mask)
-  throwing (ReadStatic to slot) row s t mask = absurd (IsIn-zero t mask)
-  throwing (WriteStatic from slot) row s t mask = absurd (IsIn-zero t mask)
-  throwing Other row s t mask = absurd (IsIn-zero t mask)
+  throwing_by : (when : Throws) (row : List Tag) (s t : ℕ) → in_mask (throws_by own when row s) t ≡ true → may_throw when ≡ true
+  throwing_by Never row s t mask = absurd (IsIn-zero t mask)
+  throwing_by ByChoice row s t mask = refl
+  throwing_by (WhereZero r) row s t mask = refl
+
+  throwing : (a : Act) (row : List Tag) (out : Bool) (s t : ℕ) → in_mask (throws own a row out s) t ≡ true → can_throw a ≡ true
+  throwing Go row out s t mask = absurd (IsIn-zero t mask)
+  throwing (Test value if_zero) row out s t mask = absurd (IsIn-zero t mask)
+  throwing (Copy to from wide) row out s t mask = absurd (IsIn-zero t mask)
+  throwing (TakeResult to) row out s t mask = absurd (IsIn-zero t mask)
+  throwing (Write to what when) row out s t mask = throwing_by when row s t mask
+  throwing (Fill arguments kind) row out s t mask = absurd (IsIn-zero t mask)
+  throwing (ReadSlot to slot when) row out s t mask = throwing_by when row s t mask
+  throwing (WriteSlot from slot when) row out s t mask = throwing_by when row s t mask
+  throwing (Give from when) row out s t mask = throwing_by when row s t mask
+  throwing (Check when) row out s t mask = throwing_by when row s t mask
+  throwing (Throw object) row out s t mask = refl
+  throwing (Return answer) row out s t mask = absurd (IsIn-zero t mask)
+  throwing (Call by usage arguments given) row out s t mask = refl
 
   -- the fact at a successor
-  next_at : (m e i s j t k : ℕ) (a : Act) → act_at x.app m i ≡ Some a → successor_at x.app m i k ≡ Some j → in_mask (passes own a (x.tags m i) k s) t ≡ true → set (At m e i s) ≡ true → set (At m e j t) ≡ true
+  next_at : (m e i s j t k : ℕ) (a : Act) → act_at x.app m i ≡ Some a → successor_at x.app m i k ≡ Some j → in_mask (passes own a (row_at x m i) (outside_at x m i) k s) t ≡ true → set (At m e i s) ≡ true → set (At m e j t) ≡ true
   next_at m e i s j t k a is next mask here =
-      let by_act : in_mask (passes_by own (act_at x.app m i) (x.tags m i) k s) t ≡ true = subst (λ (o : Option Act). in_mask (passes_by own o (x.tags m i) k s) t ≡ true) (sym is) mask in
+      let by_act : in_mask (mask_passes own (act_at x.app m i) (row_at x m i) (outside_at x m i) k s) t ≡ true = subst (λ (o : Option Act). in_mask (mask_passes own o (row_at x m i) (outside_at x m i) k s) t ≡ true) (sym is) mask in
       ⊎_elim (λ own_one. p.closed.by _ _ (inl (I2 k own_one next by_act)) (here, tt)) (λ other. p.closed.by _ _ (inl (I1 k other next by_act)) (here, tt)) (cases_Bool (own_operation x own m i))
 
   -- on to a successor, with what the instruction left
-  pub goes_ok : (h h' : Heap) (f : Frame) (rest : List Frame) (values : List Value) (a : Act) (k : ℕ) (t : Top h f rest) → IsHeap (length x.app.locks) h' → act_at x.app f.method f.index ≡ Some a → length h.locks ≤ length h'.locks
-      → in_mask (passes own a (row_of f) k (status h own)) (status h' own) ≡ true → AreTagged (after (site_at x.app f.method f.index) a (row_of f)) values t.lo (length h'.locks) h' → IsInside x own set (goes_on x p.at h' f rest values k)
+  pub goes_ok : (h h' : Heap) (f : Frame) (rest : List Frame) (values : List Value) (a : Act) (k : ℕ) (t : Top h f rest) → IsHeap (slot_count x) h' → act_at x.app f.method f.index ≡ Some a → length h.locks ≤ length h'.locks
+      → in_mask (passes own a (row_of f) (out_of f) k (status h own)) (status h' own) ≡ true → AreTagged (after (site_at x.app f.method f.index) a (row_of f)) values t.lo (length h'.locks) h' → IsInside x own set (goes_on x p.at h' f rest values k)
   goes_ok h h' f rest values a k t ok is le mask tagged = to (successor_at x.app f.method f.index k) refl
     where
       to : (o : Option ℕ) → successor_at x.app f.method f.index k ≡ o → IsInside x own set (goes_to p.at h' f rest values o)
@@ -115,23 +130,23 @@ module _ (x : SubjectParts) (own : ℕ) (set : Set) (p : Premises x own set) whe
           from = omega (arith, t.from);
           entered = t.entered;
           at = next_at f.method t.e f.index (status h own) j (status h' own) k a is eq mask t.at;
-          registers = tagged_under _ values t.lo (length h'.locks) h' tagged (x.tags f.method j) (p.tagged.flows f.method f.index k j a t.entered (live h f rest t) is (leads a (row_of f) k (status h own) (status h' own) mask) eq);
+          registers = tagged_under _ values t.lo (length h'.locks) h' tagged (row_at x f.method j) (p.tagged.flows f.method f.index k j a t.entered (live h f rest t) is (leads a (row_of f) (out_of f) k (status h own) (status h' own) mask) eq);
           below = below_kept x set p.root start_status h h' rest f.method t.e t.lo t.below;
         };
       }
 
   -- an instruction that leaves the heap as it is
-  pub quiet_ok : (h : Heap) (ok : IsHeap (length x.app.locks) h) (f : Frame) (rest : List Frame) (values : List Value) (a : Act) (k : ℕ) (t : Top h f rest) → act_at x.app f.method f.index ≡ Some a
-      → in_mask (passes own a (row_of f) k (status h own)) (status h own) ≡ true → AreTagged (after (site_at x.app f.method f.index) a (row_of f)) values t.lo (length h.locks) h → IsInside x own set (goes_on x p.at h f rest values k)
+  pub quiet_ok : (h : Heap) (ok : IsHeap (slot_count x) h) (f : Frame) (rest : List Frame) (values : List Value) (a : Act) (k : ℕ) (t : Top h f rest) → act_at x.app f.method f.index ≡ Some a
+      → in_mask (passes own a (row_of f) (out_of f) k (status h own)) (status h own) ≡ true → AreTagged (after (site_at x.app f.method f.index) a (row_of f)) values t.lo (length h.locks) h → IsInside x own set (goes_on x p.at h f rest values k)
   quiet_ok h ok f rest values a k t is mask tagged = goes_ok h h f rest values a k t ok is (omega arith) mask tagged
 
   -- ---- throws
   -- a handler that is reached
-  handler_ok : (h : Heap) (ok : IsHeap (length x.app.locks) h) (f : Frame) (rest : List Frame) (a : Act) (t : Top h f rest) → act_at x.app f.method f.index ≡ Some a
-      → in_mask (throws own a (row_of f) (status h own)) (status h own) ≡ true → AreTagged (thrown a (row_of f)) f.registers t.lo (length h.locks) h
+  handler_ok : (h : Heap) (ok : IsHeap (slot_count x) h) (f : Frame) (rest : List Frame) (a : Act) (t : Top h f rest) → act_at x.app f.method f.index ≡ Some a
+      → in_mask (throws own a (row_of f) (out_of f) (status h own)) (status h own) ≡ true → AreTagged (thrown a (row_of f)) f.registers t.lo (length h.locks) h
       → (k i : ℕ) → handler_at x.app f.method f.index k ≡ Some i → IsInside x own set (Running p.at h (moved f i f.registers ∷ rest))
   handler_ok h ok f rest a t is mask tagged k i eq =
-      let by_act : in_mask (throws_by own (act_at x.app f.method f.index) (row_of f) (status h own)) (status h own) ≡ true = subst (λ (o : Option Act). in_mask (throws_by own o (row_of f) (status h own)) (status h own) ≡ true) (sym is) mask in
+      let by_act : in_mask (mask_throws own (act_at x.app f.method f.index) (row_of f) (out_of f) (status h own)) (status h own) ≡ true = subst (λ (o : Option Act). in_mask (mask_throws own o (row_of f) (out_of f) (status h own)) (status h own) ≡ true) (sym is) mask in
       record {
         edge = p.edge;
         root = p.root;
@@ -144,7 +159,7 @@ module _ (x : SubjectParts) (own : ℕ) (set : Set) (p : Premises x own set) whe
           from = t.from;
           entered = t.entered;
           at = p.closed.by _ _ (inl (I3 k eq by_act)) (t.at, tt);
-          registers = tagged_under _ f.registers t.lo (length h.locks) h tagged (x.tags f.method i) (p.tagged.throws f.method f.index k i a t.entered (live h f rest t) is (throwing a (row_of f) (status h own) (status h own) mask) eq);
+          registers = tagged_under _ f.registers t.lo (length h.locks) h tagged (row_at x f.method i) (p.tagged.throws f.method f.index k i a t.entered (live h f rest t) is (throwing a (row_of f) (out_of f) (status h own) (status h own) mask) eq);
           below = t.below;
         };
       }
@@ -154,8 +169,8 @@ module _ (x : SubjectParts) (own : ℕ) (set : Set) (p : Premises x own set) whe
   left_ok h [] n es hi b = (tt, tt)
   left_ok h (g ∷ rest) n es hi b = absurd (b.2.call)
 
-  pub throws_ok : (h : Heap) (ok : IsHeap (length x.app.locks) h) (f : Frame) (rest : List Frame) (a : Act) (t : Top h f rest) → act_at x.app f.method f.index ≡ Some a
-      → in_mask (throws own a (row_of f) (status h own)) (status h own) ≡ true → AreTagged (thrown a (row_of f)) f.registers t.lo (length h.locks) h → Each (IsInside x own set) (throws_from x p.at h (f ∷ rest))
+  pub throws_ok : (h : Heap) (ok : IsHeap (slot_count x) h) (f : Frame) (rest : List Frame) (a : Act) (t : Top h f rest) → act_at x.app f.method f.index ≡ Some a
+      → in_mask (throws own a (row_of f) (out_of f) (status h own)) (status h own) ≡ true → AreTagged (thrown a (row_of f)) f.registers t.lo (length h.locks) h → Each (IsInside x own set) (throws_from x p.at h (f ∷ rest))
   throws_ok h ok f rest a t is mask tagged =
       each_append (IsInside x own set) (map (λ i. Running p.at h (moved f i f.registers ∷ rest)) (handlers_of (place_at x.app f.method f.index))) _
       (each_map_at (IsInside x own set) _ (handlers_of (place_at x.app f.method f.index)) (λ k i eq. handler_ok h ok f rest a t is mask tagged k i (handler_numbered (place_at x.app f.method f.index) k i eq)))

@@ -2,7 +2,7 @@
 --
 -- A call of a method that the application declares goes outside as every other call does: no instruction enters a
 -- method of the application yet.
-use Rattle.std.specs.Prelude.{ℕ, zero, suc, pred, ◌+◌, ◌%◌, Bool, true, false, not, ◌&&◌, ◌||◌, ◌==◌, nat_le, if◌then◌else◌, List, [], ◌∷◌, ◌++◌, map, length, replicate, Option, Some, None, slice_get, slice_index, slice_index_or, slice_set, flat_map, position, bytes_eq, codes}
+use Rattle.std.specs.Prelude.{ℕ, zero, suc, pred, ◌+◌, ◌%◌, Bool, true, false, not, ◌&&◌, ◌==◌, nat_le, if◌then◌else◌, List, [], ◌∷◌, ◌++◌, map, length, replicate, Option, Some, None, slice_get, slice_index, slice_index_or, slice_set, flat_map, position, bytes_eq, codes}
 use Rattle.std.specs.List.{range_with_len}
 use Rattle.ns_base.specs.declared.rows.LockNo.{LockNo}
 use Rattle.ns_base.specs.declared.rows.TypeNo.{TypeNo}
@@ -362,7 +362,7 @@ act_options x at h f rest (Some (Call by usage arguments given)) = call_options 
 -- ---- the start of a callback
 -- the values of an argument of a type, for each of its words
 abbrev pub argument_words : AppParts → List ℕ → List (List Value)
-argument_words app text = if is_reference text then free_references app ∷ [] else replicate (words_of text) free_numbers
+argument_words app text = replicate (words_of text) (if is_reference text then free_references app else free_numbers)
 
 abbrev pub parameter_words : AppParts → Option ProtoParts → List (List Value)
 parameter_words app None = []

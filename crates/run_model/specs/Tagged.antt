@@ -1,27 +1,26 @@
 -- What the theorem asks of a subject: tags that follow the code, no use of a lock that the tags can't follow, and a
 -- component list and calls of the form that the rules speak of so far.
-use Rattle.std.specs.Prelude.{ℕ, ◌≡◌, ◌≢◌, ◌≤◌, ◌<◌, Bool, true, false, List, length, Some, slice_get}
+use Rattle.std.specs.Prelude.{ℕ, ◌≡◌, ◌≤◌, ◌<◌, true, false, List, length, Some, slice_get}
 use Rattle.ns_base.specs.declared.rows.LockNo.{LockNo}
 use Rattle.dalvik.specs.declared.ins.Args.{Args}
 use Rattle.app_model.specs.declared.component.Edge.{Edge}
 use Rattle.app_model.specs.declared.lock_use.LockUse.{LockUse}
 use Rattle.app_model.specs.declared.tag.Tag.{Tag}
-use Rattle.app_model.specs.declared.tag.Tag.TheVariants.{Bot}
 use Rattle.app_model.specs.Components.{edge_at, callback_at}
 use Rattle.app_model.specs.Sites.{site_at}
 use Rattle.app_model.specs.Subject.{SubjectParts, outside_at, row_at, slot_count}
 use Rattle.app_model.specs.Words.{successor_at, handler_at}
 use Rattle.act_model.specs.declared.act.Act.{Act}
-use Rattle.act_model.specs.declared.act.Act.TheVariants.{Go, Test, Copy, TakeResult, Write, Fill, ReadSlot, WriteSlot, Give, Check, Throw, Return, Call}
+use Rattle.act_model.specs.declared.act.Act.TheVariants.{WriteSlot, Call}
 use Rattle.act_model.specs.declared.act.By.{By}
 use Rattle.act_model.specs.declared.act.Gives.{Gives}
 use Rattle.act_model.specs.declared.act.Throws.{Throws}
-use Rattle.act_model.specs.declared.act.Throws.TheVariants.{Never, ByChoice, WhereZero}
 use Rattle.act_model.specs.Acts.{act_at}
 use Rattle.act_model.specs.Changes.{tag_in, after, thrown}
 use Rattle.act_model.specs.Entries.{callback_row}
 use Rattle.act_model.specs.Tags.{Under}
 use Rattle.flow_model.specs.Scope.{is_escape, is_wrong_call}
+use Rattle.flow_model.specs.TagFlow.{IsLive, can_throw, leads_on}
 
 -- a method that the machine may enter: a callback of a listed component
 pub record IsEntered (x : SubjectParts) (m : ℕ) : Type 0 where
@@ -33,48 +32,6 @@ pub record IsEntered (x : SubjectParts) (m : ℕ) : Type 0 where
 pub record IsUnder (low high : List Tag) : Type 0 where
   pub same : length low ≡ length high
   pub each : (r : ℕ) → r < length low → Under (tag_in low r) (tag_in high r)
-
--- an instruction leads on to another one
-abbrev pub leads_on : Act → Bool
-leads_on Go = true
-leads_on (Test value zero) = true
-leads_on (Copy to from wide) = true
-leads_on (TakeResult to) = true
-leads_on (Write to what throws) = true
-leads_on (Fill arguments kind) = true
-leads_on (ReadSlot to slot throws) = true
-leads_on (WriteSlot from slot throws) = true
-leads_on (Give from throws) = true
-leads_on (Check throws) = true
-leads_on (Throw object) = false
-leads_on (Return answer) = false
-leads_on (Call by usage arguments gives) = true
-
--- it can throw, for some values of its registers
-abbrev pub may_throw : Throws → Bool
-may_throw Never = false
-may_throw ByChoice = true
-may_throw (WhereZero r) = true
-
-abbrev pub can_throw : Act → Bool
-can_throw Go = false
-can_throw (Test value zero) = false
-can_throw (Copy to from wide) = false
-can_throw (TakeResult to) = false
-can_throw (Write to what throws) = may_throw throws
-can_throw (Fill arguments kind) = false
-can_throw (ReadSlot to slot throws) = may_throw throws
-can_throw (WriteSlot from slot throws) = may_throw throws
-can_throw (Give from throws) = may_throw throws
-can_throw (Check throws) = may_throw throws
-can_throw (Throw object) = true
-can_throw (Return answer) = false
-can_throw (Call by usage arguments gives) = true
-
--- some tag is not Bot, as before each instruction that is reached
-pub record IsLive (row : List Tag) : Type 0 where
-  pub register : ℕ
-  pub is : tag_in row register ≢ Bot
 
 pub record IsTagged (x : SubjectParts) : Type 0 where
   -- tags flow from the entry, to each successor and to each handler

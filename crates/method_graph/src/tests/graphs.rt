@@ -193,6 +193,9 @@ fn the_first_fault_of_code_is_named(rt: HostRuntime) {
             Some(CodeFault::PayloadKind(0)),
         ),
         (&[0x0026, 3, 0, 0x000e], Some(CodeFault::PayloadKind(0))),
+        // data, and a table of keys
+        (&[0x0026, 4, 0, 0x000e, 0x0300, 1, 0, 0], None),
+        (&[0x002c, 4, 0, 0x000e, 0x0200, 1, 7, 0, 3, 0], None),
         // a nop before a payload
         (&[0x000e, 0x0000, 0x0300, 1, 0, 0], None),
     ];

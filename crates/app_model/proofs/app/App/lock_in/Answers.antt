@@ -3,10 +3,10 @@ use Rattle.ns_base.specs.declared.rows.FieldNo.{FieldNo}
 use Rattle.app_model.proofs.Searches.{lock_here, lock_none}
 use Rattle.app_model.proofs.app.App.lock_in.Goals as goal
 
-pub returns-then-is_declared : goal.returns-then-is_declared
-returns-then-is_declared c =
+pub returns-then-is_named_field : goal.returns-then-is_named_field
+returns-then-is_named_field c =
     lock_here _ _ _ _ _ (record { 0 = 0 }) c.locks-locks.ensures c.loop-i-test.true c.loop-i.invariant
-    (sym c.is_declared.ensures ∙ c.if-is_declared.true)
+    (sym c.is_named_field.ensures ∙ c.if-is_named_field.true)
 
 pub returns : goal.returns
 returns c =

@@ -1,0 +1,113 @@
+#!/usr/bin/env python3
+"""Runs the proved program as a build server does, and compares its status and all that it writes.
+
+usage: real_runs.py [PROGRAM]
+
+PROGRAM is crates/nosleep/out/nosleep where none is named. No clause speaks of what is tried here: that `main` ends
+with the exit of the top call and hands on all words, that the adapters reach real files, pipes and standard output,
+and that memory is found where there is memory.
+"""
+import os
+import pathlib
+import subprocess
+import sys
+import tempfile
+
+import sample_dex
+
+TOP = pathlib.Path(__file__).resolve().parent.parent
+LIMIT = 33_554_432
+SECONDS = 60
+
+HELP = b"""usage: nosleep receiver [--json] [--count] DEX CLASS
+       nosleep verify [--json] [--count] LIST DEX...
+       nosleep check [--json] [--count] CERT LIST DEX...
+       nosleep demo N
+"""
+LEAK = b"""report 1 of 2: Lapp/R;->wl is C1 after Lapp/R;->onReceive
+report 2 of 2: Lapp/R;->wl is L after Lapp/R;->onReceive
+"""
+R = "Lapp/R;"
+# A name that no folder takes. Its text is longer than a pipe holds, so that it cannot go in one piece.
+LONG = "\x01" * 30_000
+
+# What is shown, the words, the file on standard input, the status, and the text.
+RUNS = [
+    ("an accepted file", ["receiver", "works.dex", R], None, 0, b"accept\n"),
+    ("a reported file", ["receiver", "leaks.dex", R], None, 1, LEAK),
+    ("a bad file", ["receiver", "changed.dex", R], None, 3, b"bad dex 0 Checksum\n"),
+    ("no words", [], None, 4, HELP),
+    ("two words", ["receiver", "works.dex"], None, 4, HELP),
+    ("another third word", ["receiver", "works.dex", "Lapp/Q;"], None, 3, b"bad dex 0 NotBuilt\n"),
+    ("a fourth word", ["receiver", "works.dex", R, R], None, 4, HELP),
+    ("a word that is no text", ["receiver", "works.dex", b"\xff"], None, 4, HELP),
+    ("an absent file", ["receiver", "absent.dex", R], None, 5, b"cannot read absent.dex\n"),
+    ("a folder", ["receiver", ".", R], None, 5, b"cannot read .\n"),
+    ("a text longer than a pipe", ["receiver", LONG, R], None, 5, b"cannot read " + rb"\x01" * len(LONG) + b"\n"),
+    ("as many bytes as there may be", ["receiver", "most.dex", R], None, 3, b"bad dex 0 Magic\n"),
+    ("one byte more", ["receiver", "more.dex", R], None, 8, b"limit FileBytes\n"),
+    ("a large application", ["receiver", "large.dex", R], None, 3, b"bad dex 0 NotBuilt\n"),
+    ("a pipe", ["receiver", "/dev/stdin", R], "leaks.dex", 1, LEAK),
+    ("a pipe of many pieces", ["receiver", "/dev/stdin", R], "large.dex", 3, b"bad dex 0 NotBuilt\n"),
+    ("a pipe that gives too many bytes", ["receiver", "/dev/stdin", R], "more.dex", 8, b"limit FileBytes\n"),
+]
+
+
+def lay_out(folder):
+    """The files that the runs name."""
+    for name, body in (("works", "worked"), ("leaks", "leaks")):
+        (folder / f"{name}.dex").write_bytes(sample_dex.layout(*sample_dex.BODIES[body]))
+    *front, last = (folder / "works.dex").read_bytes()
+    (folder / "changed.dex").write_bytes(bytes([*front, last ^ 1]))
+    for name, size in (("most", LIMIT), ("more", LIMIT + 1)):
+        with open(folder / f"{name}.dex", "wb") as file:
+            file.truncate(size)
+    # classes, members, code with each payload, and tries, as a compiled application has them
+    subprocess.run([sys.executable, TOP / "bench/generate_dex.py", folder / "large.dex"], check=True)
+
+
+def run(program, words, folder, given=b"", out=subprocess.PIPE):
+    return subprocess.run([program, *words], input=given, stdout=out, stderr=subprocess.PIPE, cwd=folder, timeout=SECONDS)
+
+
+def differs(shows, ran, status, text):
+    """Whether a run ended otherwise, or wrote something else; it is then said."""
+    if (ran.returncode, ran.stdout, ran.stderr) == (status, text, b""):
+        return False
+    print(f"{shows}: status {ran.returncode} in place of {status}; it wrote {(ran.stdout or b'')[:200]!r}"
+          f" in place of {(text or b'')[:200]!r}, and {ran.stderr[:200]!r} as errors")
+    return True
+
+
+def is_untaken_wrong(program, folder):
+    """Whether a text that nothing takes is answered otherwise than it should be."""
+    words = ["receiver", "works.dex", R]
+    reader, writer = os.pipe()
+    os.close(reader)
+    with open(writer, "wb") as closed:
+        wrong = differs("a closed pipe", run(program, words, folder, out=closed), 6, None)
+    if not os.path.exists("/dev/full"):
+        print("no /dev/full here: a full disk is left out")
+        return wrong
+    with open("/dev/full", "wb") as full:
+        return differs("a full disk", run(program, words, folder, out=full), 6, None) or wrong
+
+
+def main():
+    program = pathlib.Path(*sys.argv[1:2] or [TOP / "crates/nosleep/out/nosleep"]).resolve()
+    if not program.is_file():
+        sys.exit(f"no program {program}: rt ci leaves it there")
+    with tempfile.TemporaryDirectory() as room:
+        folder = pathlib.Path(room)
+        lay_out(folder)
+        wrong = is_untaken_wrong(program, folder)
+        for shows, words, given, status, text in RUNS:
+            fed = (folder / given).read_bytes() if given else b""
+            wrong |= differs(shows, run(program, words, folder, fed), status, text)
+    if wrong:
+        sys.exit(f"{program} runs otherwise than it should")
+    print("all real runs ended and wrote as they should")
+
+
+if __name__ == "__main__":
+    main()
