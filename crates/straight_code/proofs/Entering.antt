@@ -1,5 +1,5 @@
 -- The tags with which the callback begins.
-use Rattle.std.proofs.Common.{◌≡◌, ◌≢◌, ◌<◌, ◌+◌, ◌-◌, ◌++◌, ℕ, zero, suc, min, List, [], ◌∷◌, length, get_or, replicate, Some, None, slice_get, refl, sym, ap, ◌∙◌, subst, ⊎_elim, arith, append_assoc}
+use Rattle.std.proofs.Common.{◌≡◌, ◌≢◌, ◌<◌, ◌+◌, ◌-◌, ◌++◌, ℕ, zero, suc, min, List, [], ◌∷◌, length, replicate, Some, slice_get, refl, ap, subst, ⊎_elim, arith, append_assoc}
 use Rattle.std.proofs.lemmas.Bool.{cases_lt}
 use Rattle.std.proofs.lemmas.Option.{get_or_from_slice_get}
 use Rattle.app_model.specs.declared.rows.MethodRow.{MethodRow}

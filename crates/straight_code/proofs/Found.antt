@@ -1,6 +1,6 @@
 -- What lies on the path is derived, and so the statuses at the end of a callback that began at a reached status are
 -- those of the violations.
-use Rattle.std.proofs.Common.{◌≡◌, ◌⊎◌, ◌↔◌, ℕ, zero, suc, ◌<◌, ◌≤◌, ◌+◌, ◌==◌, nat_lt, if◌then◌else◌, Bool, true, false, List, ◌∷◌, [], length, Some, slice_index, refl, sym, ap, ◌∙◌, subst, inl, inr, true≢false, arith, add-one}
+use Rattle.std.proofs.Common.{◌≡◌, ◌⊎◌, ◌↔◌, ℕ, zero, suc, ◌<◌, ◌≤◌, ◌==◌, nat_lt, if◌then◌else◌, Bool, true, false, List, ◌∷◌, [], length, Some, refl, sym, ap, ◌∙◌, subst, inl, inr, true≢false, arith, add-one}
 use Rattle.std.specs.Int.{bit_at}
 use Rattle.std.proofs.lemmas.Bool.{cases_Bool}
 use Rattle.app_model.specs.declared.component.Edge.{Edge}
@@ -23,7 +23,7 @@ use Rattle.straight_code.specs.Reached.{IsReached, at_start, by_step}
 use Rattle.straight_code.specs.Verdict.{AreHeld, HasExactSet, IsSmallApp}
 use Rattle.straight_code.proofs.Plain.{returns_last, not_acquired}
 use Rattle.straight_code.proofs.PathRows.{passes_is}
-use Rattle.straight_code.proofs.Closed.{leads, path_facts, comes_by, closed, view_first, only_edge, has_method, entered_same, ended}
+use Rattle.straight_code.proofs.Closed.{leads, path_facts, comes_by, closed, view_first, has_method, entered_same, ended}
 
 -- a bit says whether it is set
 bit_is : (b : Bool) → (bit_at (if b then 1 else 0) 0 == 1) ≡ b

@@ -1,5 +1,5 @@
 -- The tags of the path's subject follow the code, and no lock escapes.
-use Rattle.std.proofs.Common.{◌≡◌, ◌⊎◌, ◌<◌, ◌≤◌, ◌+◌, ◌==◌, ℕ, zero, suc, Bool, true, false, List, [], ◌∷◌, length, Option, Some, None, refl, sym, ap, ap₂, ◌∙◌, subst, inl, inr, ⊎_elim, true≢false, arith, add-one, eq-or-lt_of_le}
+use Rattle.std.proofs.Common.{◌≡◌, ◌<◌, ℕ, zero, suc, Bool, true, false, List, [], ◌∷◌, Option, Some, None, refl, sym, ap, ◌∙◌, subst, ⊎_elim, true≢false, arith, add-one, eq-or-lt_of_le}
 use Rattle.std.proofs.lemmas.Bool.{cases_lt}
 use Rattle.ns_base.specs.declared.rows.LockNo.{LockNo}
 use Rattle.app_model.specs.declared.component.Edge.{Edge}
@@ -18,13 +18,14 @@ use Rattle.act_model.specs.Changes.{after}
 use Rattle.act_model.specs.Tags.{itself}
 use Rattle.flow_model.specs.Scope.{is_escape, is_wrong_call}
 use Rattle.flow_model.proofs.TestLaws.{none_some, same_number}
-use Rattle.run_model.specs.Tagged.{IsTagged, IsEntered, IsUnder, leads_on}
+use Rattle.flow_model.specs.TagFlow.{leads_on}
+use Rattle.run_model.specs.Tagged.{IsTagged, IsEntered, IsUnder}
 use Rattle.straight_code.specs.Body.{IsPlainBody}
 use Rattle.straight_code.specs.Path.{row_before, row_after, path_subject, receiver}
 use Rattle.straight_code.specs.Scope.{IsInScope}
 use Rattle.straight_code.specs.Verdict.{IsSmallApp}
 use Rattle.straight_code.proofs.PathRows.{outside_is, row_is}
-use Rattle.straight_code.proofs.Plain.{one_way, no_handler, returns_last, no_way_past, no_handler_past, no_act_past, plain_act_at}
+use Rattle.straight_code.proofs.Plain.{one_way, no_handler, returns_last, no_handler_past, no_act_past, plain_act_at}
 
 under_itself : (row : List Tag) → IsUnder row row
 under_itself row = record { same = refl; each = λ r l. itself }

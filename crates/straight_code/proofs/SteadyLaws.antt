@@ -1,5 +1,5 @@
 -- Rows of which most tags are steady, and what acts leave of them.
-use Rattle.std.proofs.Common.{◌≡◌, ◌<◌, ◌≤◌, ◌+◌, ◌-◌, ℕ, zero, suc, pred, min, max, Bool, true, false, List, [], ◌∷◌, ◌++◌, map, length, take, drop, set, refl, sym, ◌∙◌, ap, ap₂, subst, arith}
+use Rattle.std.proofs.Common.{◌≡◌, ◌<◌, ◌+◌, ◌-◌, ℕ, zero, suc, pred, min, max, Bool, true, false, List, [], ◌∷◌, ◌++◌, map, length, take, drop, set, refl, sym, ◌∙◌, ap, ap₂, subst, arith}
 use Rattle.std.proofs.lemmas.List.{take-append-drop, map-append, get_or-map, get_or-drop, get_or-set_other, length-drop, length-map, length-set}
 use Rattle.ns_base.specs.declared.rows.LockNo.{LockNo}
 use Rattle.app_model.specs.declared.tag.Tag.{Tag}
