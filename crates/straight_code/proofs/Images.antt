@@ -4,13 +4,13 @@ use Rattle.std.proofs.lemmas.Nat.Bits.{bit_at-pow_same, bit_at-pow_other}
 use Rattle.std.proofs.lemmas.Bool.{cases_eq}
 use Rattle.app_model.specs.declared.tag.Tag.{Tag}
 use Rattle.app_model.specs.Parts.{AppParts}
-use Rattle.flow_model.specs.declared.act.Act.{Act}
-use Rattle.act_model.specs.Acts.{act_at}
 use Rattle.app_model.specs.Masks.{in_mask}
+use Rattle.act_model.specs.declared.act.Act.{Act}
+use Rattle.act_model.specs.Acts.{act_at}
 use Rattle.flow_model.specs.Images.{IsImage}
-use Rattle.flow_model.specs.Status.{only}
 use Rattle.flow_model.specs.Passes.{passes}
-use Rattle.flow_model.specs.Subject.{passes_by}
+use Rattle.flow_model.specs.Status.{only}
+use Rattle.flow_model.specs.Subject.{mask_passes}
 use Rattle.flow_model.proofs.MaskLaws.{IsIn-lt, IsIn-bit, IsIn-from}
 use Rattle.flow_model.proofs.TestLaws.{both, and_join, bool_same, same_number, number_same, below_is, some_below, below_some}
 use Rattle.straight_code.specs.Path.{row_before, on_path}
@@ -47,7 +47,7 @@ module _ (app : AppParts) (i : ℕ) (act : Act) (there : act_at app 0 i ≡ Some
   row = row_before app 0 i
 
   -- the masks of the instruction at i are those of its act
-  by_act : (s : ℕ) → passes_by 0 (act_at app 0 i) row 0 s ≡ passes 0 act row 0 s
+  by_act : (s : ℕ) → mask_passes 0 (act_at app 0 i) row true 0 s ≡ passes 0 act row true 0 s
   by_act s = rw there refl
 
   image_on : (column : List ℕ) (e mask img t : ℕ) → IsColumn act row column → IsImage (slice_index column) mask img → ((s : ℕ) → in_mask mask s ≡ on_path app e i s)

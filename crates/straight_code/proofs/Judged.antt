@@ -4,14 +4,15 @@ use Rattle.app_model.specs.declared.tag.Tag.{Tag}
 use Rattle.app_model.specs.declared.rows.Named.{Named}
 use Rattle.app_model.specs.Parts.{AppParts}
 use Rattle.app_model.specs.Words.{code_len, named_at}
-use Rattle.flow_model.specs.declared.act.Act.{Act}
-use Rattle.flow_model.specs.declared.act.Act.TheVariants.{ReturnVoid}
+use Rattle.act_model.specs.declared.act.Act.{Act}
+use Rattle.act_model.specs.declared.act.Act.TheVariants.{Return}
+use Rattle.act_model.specs.declared.act.Returned.TheVariants.{Nothing}
 use Rattle.act_model.specs.Acts.{act_at}
 use Rattle.app_model.specs.Masks.{in_mask, any_below, is_held}
 use Rattle.flow_model.specs.Images.{IsImage}
 use Rattle.flow_model.proofs.MaskLaws.{IsIn-zero, IsCut-and}
 use Rattle.flow_model.specs.Policy.{AreViolations, MeetsPolicy}
-use Rattle.app_model.specs.Subject.{SubjectParts}
+use Rattle.app_model.specs.Subject.{SubjectParts, slot_count}
 use Rattle.flow_model.specs.Scope.{is_escape, is_wrong_call, stores_new}
 use Rattle.flow_model.proofs.TestLaws.{some_below, below_some, in_mask_below}
 use Rattle.straight_code.specs.declared.path.Walk.{Walk}
@@ -19,7 +20,7 @@ use Rattle.straight_code.specs.Body.{IsPlainBody}
 use Rattle.straight_code.specs.Path.{path_subject, row_before, on_path, acquires_at}
 use Rattle.straight_code.specs.Reached.{IsReached, at_start, by_step, steps_of}
 use Rattle.straight_code.specs.Scope.{IsAllowed, IsInScope, IsThreadCall, stores_new_at}
-use Rattle.straight_code.specs.Verdict.{AreEnds, AreHeld, HasExactSet, IsPlainPath, IsSafe, violation_at}
+use Rattle.straight_code.specs.Verdict.{AreEnds, AreHeld, HasExactSet, IsPlainPath, IsSafe, IsSmallApp, violation_at}
 use Rattle.straight_code.specs.Walk.{IsWalk}
 use Rattle.straight_code.proofs.Plain.{returns_last}
 use Rattle.straight_code.proofs.Closed.{leads, status_below}
@@ -75,11 +76,11 @@ once_on app n once here i j l m a b =
     (λ lt. once i j l lt a b) (below_or_here j n m)
 
 -- ---- the return breaks no rule
-return_allowed : (app : AppParts) (row : List Tag) (named : Option Named) (o : Option Act) → o ≡ Some ReturnVoid
+return_allowed : (app : AppParts) (row : List Tag) (named : Option Named) (o : Option Act) → o ≡ Some (Return Nothing)
     → (IsThreadCall app o named → ⊥) × (is_escape o row ≡ false) × (is_wrong_call o row ≡ false) × (stores_new 0 o row ≡ false)
 return_allowed app row named o eq = rw eq ((λ t. t), refl, refl, refl)
 
-module _ (app : AppParts) (plain : IsPlainBody app) where
+module _ (app : AppParts) (small : IsSmallApp app) (plain : IsPlainBody app) where
   at_last : (IsThreadCall app (act_at app 0 plain.last) (named_at app 0 plain.last) → ⊥)
       × (is_escape (act_at app 0 plain.last) (row_before app 0 plain.last) ≡ false) × (is_wrong_call (act_at app 0 plain.last) (row_before app 0 plain.last) ≡ false)
       × (stores_new_at app plain.last ≡ false)
@@ -114,10 +115,10 @@ module _ (app : AppParts) (plain : IsPlainBody app) where
     steps_reached s at_start = (omega arith, at_start)
     steps_reached t (by_step {s = s} r h) =
         let b = steps_reached s r in
-        (status_below app plain 0 s plain.last t h, by_step b.1 (steps_lead s t b.0 ∙ h))
+        (status_below app small plain 0 s plain.last t h, by_step b.1 (steps_lead s t b.0 ∙ h))
 
     pub are_ends : length app.locks ≡ 1 → (mask : ℕ) → AreEnds walk mask → AreHeld app mask
-    are_ends one mask ends = are_held app plain ends.views reached one mask exact
+    are_ends one mask ends = are_held app small plain ends.views reached one mask exact
       where
         reached : (s : ℕ) → (in_mask ends.views s ≡ true) ↔ IsReached (leads app plain.last) s
         reached s = (λ h. (reached_by_steps s ((ends.reached s).0 h)).1, λ r. (ends.reached s).1 (steps_reached s r).1)
@@ -129,7 +130,7 @@ module _ (app : AppParts) (plain : IsPlainBody app) where
         )
 
     pub ends_exact : length app.locks ≡ 1 → (mask : ℕ) → AreEnds walk mask → HasExactSet (path_subject app)
-    ends_exact one mask ends = exact_set app plain ends.views (λ s. ((λ h. (reached_by_steps s ((ends.reached s).0 h)).1), (λ r. (ends.reached s).1 (steps_reached s r).1))) one
+    ends_exact one mask ends = exact_set app small plain ends.views (λ s. ((λ h. (reached_by_steps s ((ends.reached s).0 h)).1), (λ r. (ends.reached s).1 (steps_reached s r).1))) one
 
 -- no derived violation: the exact set meets the policy
 pub meets : (x : SubjectParts) → (exact : HasExactSet x) → AreViolations x [] → MeetsPolicy x 0 exact.set
@@ -139,19 +140,20 @@ pub some_same : {A : Type 0} (a b : A) → Some a ≡ Some b → a ≡ b
 some_same a b p = cc
 
 -- no derived violation: every run is safe, by what holds of every closed set that meets the policy
-pub safe : (app : AppParts) → length app.locks ≡ 1 → IsPlainPath app → HasExactSet (path_subject app) → AreViolations (path_subject app) []
-    → ((x : SubjectParts) (l : ℕ) (set : Set) → IsTagged x → l < length x.app.locks → IsClosed (Rules x l) set → MeetsPolicy x l set → (choices : List ℕ) → StandsWell x l (run_of x choices))
-    → ((x : SubjectParts) (l : ℕ) (set : Set) → IsTagged x → l < length x.app.locks → IsClosed (Rules x l) set → MeetsPolicy x l set → (choices : List ℕ) → LeavesNoneHeld x l (run_of x choices))
+pub safe : (app : AppParts) → IsSmallApp app → IsPlainPath app → HasExactSet (path_subject app) → AreViolations (path_subject app) []
+    → ((x : SubjectParts) (l : ℕ) (set : Set) → IsTagged x → l < slot_count x → IsClosed (Rules x l) set → MeetsPolicy x l set → (choices : List ℕ) → StandsWell x l (run_of x choices))
+    → ((x : SubjectParts) (l : ℕ) (set : Set) → IsTagged x → l < slot_count x → IsClosed (Rules x l) set → MeetsPolicy x l set → (choices : List ℕ) → LeavesNoneHeld x l (run_of x choices))
     → IsSafe (path_subject app)
-safe app one path exact none stands leaves l lt choices =
+unfolding slot_count
+safe app small path exact none stands leaves l lt choices =
     subst (λ n. StandsWell x n (run_of x choices) × LeavesNoneHeld x n (run_of x choices)) (sym zero_l)
-    (stands x 0 exact.set tagged (omega (arith, one)) exact.closed (meets x exact none) choices, leaves x 0 exact.set tagged (omega (arith, one)) exact.closed (meets x exact none) choices)
+    (stands x 0 exact.set tagged (omega (arith, small.locks)) exact.closed (meets x exact none) choices, leaves x 0 exact.set tagged (omega (arith, small.locks)) exact.closed (meets x exact none) choices)
   where
     x : SubjectParts
     x = path_subject app
 
     zero_l : l ≡ 0
-    zero_l = omega (arith, lt, one)
+    zero_l = omega (arith, lt, small.locks)
 
     tagged : IsTagged x
-    tagged = path_tagged app path.plain path.scope one
+    tagged = path_tagged app small path.plain path.scope

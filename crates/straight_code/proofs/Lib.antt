@@ -1,4 +1,7 @@
+mod SteadyLaws
+mod Entering
 pub mod Plain
+pub mod PathRows
 pub mod Closed
 pub mod Found
 pub mod Supertypes

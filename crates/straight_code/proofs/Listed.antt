@@ -8,6 +8,7 @@ use Rattle.app_model.specs.Components.{edge_at, creating}
 use Rattle.app_model.specs.Parts.{AppParts}
 use Rattle.flow_model.specs.declared.policy.Violation.{Violation}
 use Rattle.app_model.specs.Masks.{in_mask}
+use Rattle.app_model.specs.Subject.{slot_count}
 use Rattle.flow_model.specs.Policy.{AreViolations, ComesBefore, IsDerivableViolation}
 use Rattle.flow_model.proofs.TestLaws.{in_mask_below, none_some}
 use Rattle.straight_code.specs.Path.{path_subject, receiver}
@@ -60,9 +61,10 @@ the_edge zero edge h = sym (ap (λ (z : Edge). z.callback) (inner h))
 the_edge (suc e) edge h = absurd (none_some edge None refl h)
 
 first_lock : (app : AppParts) → length app.locks ≡ 1 → (l c k s : ℕ) → IsDerivableViolation (path_subject app) l c k s → (l ≡ 0) × (c ≡ 0) × (k ≡ 0)
+unfolding slot_count
 first_lock app one l c k s v =
     let zero_c = the_component c v.number v.edge v.there in
-    (omega (arith, v.lock, one), zero_c, sym v.callback ∙ the_edge v.number v.edge (subst (λ n. edge_at (receiver ∷ []) n v.number ≡ Some v.edge) zero_c v.there))
+    (omega (arith, v.slot, one), zero_c, sym v.callback ∙ the_edge v.number v.edge (subst (λ n. edge_at (receiver ∷ []) n v.number ≡ Some v.edge) zero_c v.there))
 
 pub are_violations : (app : AppParts) → length app.locks ≡ 1 → (mask : ℕ) → AreHeld app mask → AreViolations (path_subject app) (violations_below mask 8)
 are_violations app one mask held = record {

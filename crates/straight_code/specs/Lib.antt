@@ -1,4 +1,5 @@
 pub mod Body
+pub mod Steady
 pub mod Path
 pub mod Scope
 pub mod Reached

@@ -6,8 +6,10 @@ use Rattle.app_model.specs.Ancestors.{IsAncestor}
 use Rattle.app_model.specs.Parts.{AppParts}
 use Rattle.app_model.specs.Words.{code_len, named_at}
 use Rattle.app_model.specs.Names.{type_text}
-use Rattle.flow_model.specs.declared.act.Act.{Act}
-use Rattle.flow_model.specs.declared.act.Act.TheVariants.{Call}
+use Rattle.act_model.specs.declared.act.Act.{Act}
+use Rattle.act_model.specs.declared.act.Act.TheVariants.{Call}
+use Rattle.act_model.specs.declared.act.By.{By}
+use Rattle.act_model.specs.declared.act.By.TheVariants.{Virtual, Super, Direct, Static}
 use Rattle.act_model.specs.Acts.{act_at}
 use Rattle.flow_model.specs.Scope.{is_escape, is_wrong_call, stores_new}
 use Rattle.straight_code.specs.Path.{row_before}
@@ -26,10 +28,17 @@ is_thread_name name = list_any (bytes_eq name) thread_names
 abbrev pub IsThread : AppParts → ℕ → Type 0
 IsThread app t = (thread : ℕ) × (is_thread_name (type_text app thread) ≡ true) × ((t ≡ thread) ⊎ IsAncestor app.classes t thread)
 
+abbrev pub is_static : By → Bool
+is_static Static = true
+is_static Virtual = false
+is_static Super = false
+is_static Direct = false
+
 -- a call that is not static, of a method of a thread or of Executors
 abbrev pub IsThreadCall : AppParts → Option Act → Option Named → Type 0
-IsThreadCall app (Some (Call usage arguments gives)) (Some named) =
-    IsThread app named.class.0 ⊎ (type_text app named.class.0 ≡ codes "Ljava/util/concurrent/Executors;")
+IsThreadCall app (Some (Call by usage arguments gives)) (Some named) =
+    (is_static by ≡ false)
+    × (IsThread app named.class.0 ⊎ (type_text app named.class.0 ≡ codes "Ljava/util/concurrent/Executors;"))
 IsThreadCall app act named = ⊥
 
 abbrev pub stores_new_at : AppParts → ℕ → Bool

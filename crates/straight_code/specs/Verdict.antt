@@ -5,9 +5,9 @@ use Rattle.app_model.specs.declared.rows.MethodRow.{MethodRow}
 use Rattle.app_model.specs.Parts.{AppParts, ClassParts}
 use Rattle.app_model.specs.Names.{type_text}
 use Rattle.app_model.specs.Masks.{in_mask, is_held}
+use Rattle.app_model.specs.Subject.{SubjectParts, slot_count}
 use Rattle.flow_model.specs.Derived.{Set, HasAll, IsClosed}
-use Rattle.flow_model.specs.Rules.{Rules}
-use Rattle.app_model.specs.Subject.{SubjectParts}
+use Rattle.flow_model.specs.Rules.{Rules, Carries}
 use Rattle.flow_model.specs.Policy.{IsViolation, IsDerivableViolation, AreViolations}
 use Rattle.run_model.specs.Machine.{run_of}
 use Rattle.run_model.specs.Soundness.{StandsWell, LeavesNoneHeld}
@@ -51,7 +51,7 @@ AreHeld app mask = (s : ℕ) → (in_mask mask s ≡ true) ↔ IsDerivableViolat
 pub record HasExactSet (x : SubjectParts) : Type 0 where
   pub set : Set
   pub closed : IsClosed (Rules x 0) set
-  pub exact : (c k s : ℕ) → IsViolation x 0 (HasAll set) c k s → IsDerivableViolation x 0 0 0 s
+  pub exact : (c k s : ℕ) → IsViolation x (Carries x 0) 0 (HasAll set) c k s → IsDerivableViolation x 0 0 0 s
 
 abbrev pub IsVerdict : AppParts → Option (List Violation) → Type 0
 IsVerdict app None = ¬ IsPlainPath app
@@ -60,7 +60,7 @@ IsVerdict app (Some violations) = IsPlainPath app × AreViolations (path_subject
 -- no run of the machine stands at an exit of a component with a lock held that the component answers for, and no lock
 -- escapes
 abbrev pub IsSafe : SubjectParts → Type 0
-IsSafe x = (l : ℕ) → l < length x.app.locks → (choices : List ℕ) → StandsWell x l (run_of x choices) × LeavesNoneHeld x l (run_of x choices)
+IsSafe x = (l : ℕ) → l < slot_count x → (choices : List ℕ) → StandsWell x l (run_of x choices) × LeavesNoneHeld x l (run_of x choices)
 
 -- the violation of the callback at a status, and those at the statuses of a mask below n, in order
 abbrev pub violation_at : ℕ → Violation

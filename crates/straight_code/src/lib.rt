@@ -3,6 +3,7 @@
 //! - `receiver` tells such an application, and `body` its code.
 //! - `threads` tells calls of threads.
 //! - `path` follows the tags and the statuses along it, as far as no rule of scope is broken.
+//! - `steady` changes the tags in place, without a walk over all registers.
 //! - `views` finds the statuses between callbacks.
 //! - `verdict` joins them: `judge`.
 #![tactic(auto)]
@@ -10,6 +11,7 @@
 mod body;
 mod path;
 mod receiver;
+mod steady;
 mod threads;
 mod verdict;
 mod views;

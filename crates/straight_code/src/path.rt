@@ -1,26 +1,30 @@
 //! Follows the tags and the statuses along the one path.
-ghost use Rattle.std.specs.Prelude.{◌≡◌, ◌≢◌, ◌↔◌, ◌<◌, ◌+◌, ◌++◌, ◌≤◌, ◌&&◌, ℕ, length, replicate, true, false, Some, IsTrue, IfOk, slice_index};
+ghost use Rattle.std.specs.Prelude.{◌≡◌, ◌≢◌, ◌↔◌, ◌<◌, ◌+◌, ◌++◌, ◌≤◌, ◌&&◌, ℕ, length, min, replicate, if◌then◌else◌, true, false, Some, IsTrue, IfOk, slice_get, slice_index};
 ghost use Rattle.app_model.specs.Parts.{AppParts};
 ghost use Rattle.app_model.specs.Words.{code_len};
+ghost use Rattle.app_model.specs.Masks.{any_below};
+ghost use Rattle.app_model.specs.LockUse.{lock_use_at};
+ghost use Rattle.app_model.specs.Sites.{is_make};
+ghost use Rattle.app_model.specs.Sound.{params_len};
+ghost use Rattle.dalvik.specs.Descriptors as descriptors;
 ghost use Rattle.act_model.specs.Acts.{act_at};
 ghost use Rattle.act_model.specs.Changes.{after};
-ghost use Rattle.flow_model.specs.Changes.{top_after, IsSteadyFrom};
-ghost use Rattle.act_model.specs.Entries.{callback_row, arguments_row};
-ghost use Rattle.flow_model.specs.Entries.{makes_lock, one_if};
-ghost use Rattle.app_model.specs.Masks.{any_below};
+ghost use Rattle.act_model.specs.Entries.{callback_row, callback_words, fitted};
 ghost use Rattle.flow_model.specs.Scope as scope;
 ghost use Rattle.straight_code.specs.Path.{row_before};
 ghost use Rattle.straight_code.specs.Scope.{IsAllowed, stores_new_at};
+ghost use Rattle.straight_code.specs.Steady as steady;
+ghost use Rattle.straight_code.specs.Steady.{IsSteadyFrom};
 ghost use Rattle.straight_code.specs.Verdict.{IsSmallApp};
 ghost use Rattle.straight_code.specs.Walk.{AreImages, IsColumn, IsWalk};
 
 use crate::body::CALLBACK;
+use crate::steady::{apply, top_after};
 use crate::threads::is_thread_call;
-use app_model::{App, LockUse, Tag};
-use flow_model::{
-    Act, acquires, act_of, apply, image, is_escape, is_wrong_call, pass_mask, stores_new, top_after,
-};
-use ns_base::LockNo;
+use act_model::{Act, act_of};
+use app_model::{App, LockUse, MethodRow, Tag};
+use flow_model::{acquires, image, is_escape, is_wrong_call, pass_mask, stores_new};
+use ns_base::{LockNo, ProtoNo};
 use std::alloc::{AllocError, Global};
 
 /// The one lock field.
@@ -60,8 +64,7 @@ pub fn enter(alloc: Global, app: &App) -> Result<Walk, AllocError>
     requires { IsSmallApp app.now }
     ensures { IfOk result (IsWalk app.now 0) }
 {
-    let method = app.method(CALLBACK);
-    let row = entry_row(alloc, method.registers, method.ins)?;
+    let row = first_row(alloc, app)?;
     Ok(Walk {
         row,
         top: 0,
@@ -72,26 +75,59 @@ pub fn enter(alloc: Global, app: &App) -> Result<Walk, AllocError>
     })
 }
 
-// The tags with which a callback begins.
-fn entry_row(alloc: Global, registers: u16, ins: u16) -> Result<Vec<Tag>, AllocError>
-    requires { ins ≤ registers }
-    ensures { IfOk result (λ row. row.items ≡ callback_row registers ins) }
+// The tags with which the callback begins.
+fn first_row(alloc: Global, app: &App) -> Result<Vec<Tag>, AllocError>
+    requires { IsSmallApp app.now }
+    ensures { IfOk result (λ row. row.items ≡ callback_row app.now (slice_get app.now.methods 0)) }
 {
-    let mut row = Vec::with_capacity(alloc, registers as usize + 1)?;
-    push_tags(&mut row, Tag::Zero, registers - ins)?;
-    push_arguments(&mut row, ins)?;
+    app.told();
+    let method = app.method(CALLBACK);
+    let mut row = Vec::with_capacity(alloc, method.registers as usize + 1)?;
+    push_tags(&mut row, Tag::Zero, method.registers - method.ins)?;
+    push_words(&mut row, app, method)?;
     row.push(Tag::Zero)?;
     Ok(row)
 }
 
-fn push_arguments(row: &mut Vec<Tag>, ins: u16) -> Result<(), AllocError>
-    ensures { IfOk result (λ _. row.new.items ≡ row.old.items ++ arguments_row ins) }
+// The words of the callback's arguments.
+fn push_words(row: &mut Vec<Tag>, app: &App, method: &MethodRow) -> Result<(), AllocError>
+    requires { method.now.proto.0 < length app.now.protos }
+    ensures { IfOk result (λ _. row.new.items ≡ row.old.items ++ fitted Tag.Zero method.now.ins (callback_words app.now method.now)) }
 {
-    if ins != 0 {
+    if method.ins != 0 {
+        let others = method.ins - 1;
+        let known = parameter_words(app, method.proto, others);
         row.push(Tag::Solid)?;
-        push_tags(row, Tag::Any, ins - 1)?;
+        push_tags(row, Tag::Any, known)?;
+        push_tags(row, Tag::Zero, others - known)?;
     }
     Ok(())
+}
+
+// How many registers the parameters of a prototype take, and at most so many.
+fn parameter_words(app: &App, proto: ProtoNo, most: u16) -> u16
+    requires { proto.0 < length app.now.protos }
+    ensures { result ≡ min (params_len app.now (slice_get app.now.protos proto.0)) most }
+{
+    let params = app.proto(proto).params.as_slice();
+    let most = u32::from(most);
+    let mut words = 0;
+    for i in 0..params.len() {
+        words = most.min(words + words_of(app.type_text(params[i])));
+    }
+    words as u16
+}
+
+// How many registers a value of a type takes.
+fn words_of(name: &[u8]) -> u32
+    ensures words { result ≡ descriptors.words_of name.now }
+    ensures few { result ≤ 2 }
+{
+    match name {
+        [b'V'] => 0,
+        [b'J' | b'D', ..] => 2,
+        _ => 1,
+    }
 }
 
 fn push_tags(row: &mut Vec<Tag>, tag: Tag, count: u16) -> Result<(), AllocError>
@@ -115,70 +151,71 @@ pub fn step(walk: &mut Walk, app: &App, index: u32) -> bool
     ensures refused { result ≡ false → IsAllowed app.now index → (any_below (stores_new_at app.now) index ≡ true) × (stores_new_at app.now index ≡ true) }
 {
     let act = act_of(app, CALLBACK, index);
-    if !is_allowed(app, index, act, walk.row.as_slice()) || stores_again(walk, act) {
+    if !is_allowed(app, index, &act, walk.row.as_slice()) || stores_again(walk, &act) {
         return false;
     }
-    move_on(walk, act);
+    let made = made_at(app, index);
+    move_on(walk, &act, made);
     true
 }
 
 // Whether an act stores a new lock where one was stored before.
-fn stores_again(walk: &Walk, act: Act) -> bool
-    ensures { result ≡ (walk.now.stored && scope.stores_new 0 (Some act) walk.now.row.items) }
+fn stores_again(walk: &Walk, act: &Act) -> bool
+    ensures { result ≡ (walk.now.stored && scope.stores_new 0 (Some act.now) walk.now.row.items) }
 {
-    walk.stored && stores_new(LOCK, act, walk.row.as_slice())
+    walk.stored && stores_new(LOCK, act, &walk.row.as_slice())
 }
 
-// What is known after an act.
-fn move_on(walk: &mut Walk, act: Act)
+// What is known after an act, which makes so many locks.
+fn move_on(walk: &mut Walk, act: &Act, made: u32)
+    requires one { made ≤ 1 }
     requires site { walk.old.site < 4294967295 }
     requires steady { IsSteadyFrom walk.old.row.items walk.old.top }
-    ensures { (app : AppParts) (i : ℕ) → act_at app 0 i ≡ Some act → IsWalk app i walk.old → IsWalk app (i + 1) walk.new }
+    ensures { (app : AppParts) (i : ℕ) → act_at app 0 i ≡ Some act.now → made ≡ (if is_make (lock_use_at app 0 i) then 1 else 0) → IsWalk app i walk.old → IsWalk app (i + 1) walk.new }
 {
-    walk.stored = stores_new(LOCK, act, walk.row.as_slice()) | walk.stored;
-    walk.acquired = acquires(LOCK, act, walk.row.as_slice()) | walk.acquired;
+    walk.stored = stores_new(LOCK, act, &walk.row.as_slice()) | walk.stored;
+    walk.acquired = acquires(LOCK, act, &walk.row.as_slice()) | walk.acquired;
     walk.images = next_images(act, walk.row.as_slice(), &walk.images);
     apply_to(&mut walk.row, walk.top, walk.site, act);
     walk.top = top_after(walk.top, act);
-    walk.site += made_by(act);
+    walk.site += made;
 }
 
 // Whether no rule of threads, escapes and lock calls is broken.
-fn is_allowed(app: &App, index: u32, act: Act, row: &[Tag]) -> bool
+fn is_allowed(app: &App, index: u32, act: &Act, row: &[Tag]) -> bool
     requires small { IsSmallApp app.now }
     requires index { index < code_len app.now 0 }
-    requires act { act_at app.now 0 index ≡ Some act }
+    requires act { act_at app.now 0 index ≡ Some act.now }
     requires row { row.now ≡ row_before app.now 0 index }
     ensures { IsTrue result ↔ IsAllowed app.now index }
 {
-    !is_thread_call(app, index, act) && !is_escape(act, row) && !is_wrong_call(act, row)
+    !is_thread_call(app, index, act) && !is_escape(act, &row) && !is_wrong_call(act, &row)
 }
 
-// How many locks an act makes.
-fn made_by(act: Act) -> u32
-    ensures made { result ≡ one_if (makes_lock (Some act)) }
+// How many locks an instruction makes.
+fn made_at(app: &App, index: u32) -> u32
+    requires small { IsSmallApp app.now }
+    requires index { index < code_len app.now 0 }
+    ensures made { result ≡ (if is_make (lock_use_at app.now 0 index) then 1 else 0) }
     ensures one { result ≤ 1 }
 {
-    match act {
-        Act::Call {
-            usage: LockUse::Make,
-            ..
-        } => 1,
+    match app.lock_use(CALLBACK, index) {
+        LockUse::Make => 1,
         _ => 0,
     }
 }
 
-fn apply_to(row: &mut Vec<Tag>, top: usize, site: u32, act: Act)
+fn apply_to(row: &mut Vec<Tag>, top: usize, site: u32, act: &Act)
     requires { IsSteadyFrom row.old.items top }
-    ensures tags { row.new.items ≡ after site act row.old.items }
-    ensures steady { IsSteadyFrom row.new.items (top_after top act) }
+    ensures tags { row.new.items ≡ after site act.now row.old.items }
+    ensures steady { IsSteadyFrom row.new.items (steady.top_after top act.now) }
 {
     apply(row, top, site, act);
 }
 
 // The images after an act.
-fn next_images(act: Act, row: &[Tag], images: &[u8; 8]) -> [u8; 8]
-    ensures { (app : AppParts) (i : ℕ) → act_at app 0 i ≡ Some act → row.now ≡ row_before app 0 i → AreImages app i images.now → AreImages app (i + 1) result }
+fn next_images(act: &Act, row: &[Tag], images: &[u8; 8]) -> [u8; 8]
+    ensures { (app : AppParts) (i : ℕ) → act_at app 0 i ≡ Some act.now → row.now ≡ row_before app 0 i → AreImages app i images.now → AreImages app (i + 1) result }
 {
     let column = column_of(act, row);
     [
@@ -194,17 +231,17 @@ fn next_images(act: Act, row: &[Tag], images: &[u8; 8]) -> [u8; 8]
 }
 
 // Where an act leads from each status.
-fn column_of(act: Act, row: &[Tag]) -> [u8; 8]
-    ensures { IsColumn act row.now result }
+fn column_of(act: &Act, row: &[Tag]) -> [u8; 8]
+    ensures { IsColumn act.now row.now result }
 {
     [
-        pass_mask(LOCK, act, row, 0, 0),
-        pass_mask(LOCK, act, row, 0, 1),
-        pass_mask(LOCK, act, row, 0, 2),
-        pass_mask(LOCK, act, row, 0, 3),
-        pass_mask(LOCK, act, row, 0, 4),
-        pass_mask(LOCK, act, row, 0, 5),
-        pass_mask(LOCK, act, row, 0, 6),
-        pass_mask(LOCK, act, row, 0, 7),
+        pass_mask(LOCK, act, &row, true, 0, 0),
+        pass_mask(LOCK, act, &row, true, 0, 1),
+        pass_mask(LOCK, act, &row, true, 0, 2),
+        pass_mask(LOCK, act, &row, true, 0, 3),
+        pass_mask(LOCK, act, &row, true, 0, 4),
+        pass_mask(LOCK, act, &row, true, 0, 5),
+        pass_mask(LOCK, act, &row, true, 0, 6),
+        pass_mask(LOCK, act, &row, true, 0, 7),
     ]
 }

@@ -7,25 +7,34 @@ ghost use Rattle.straight_code.specs.Scope.{IsThread, IsThreadCall};
 ghost use Rattle.straight_code.specs.Verdict.{IsSmallApp};
 
 use crate::body::CALLBACK;
+use act_model::{Act, By};
 use app_model::App;
-use flow_model::Act;
 use ns_base::{ClassNo, TypeNo};
 
 const EXECUTORS: &[u8] = b"Ljava/util/concurrent/Executors;";
 
 /// Whether an instruction calls a method of a thread, or of Executors.
-pub fn is_thread_call(app: &App, index: u32, act: Act) -> bool
+pub fn is_thread_call(app: &App, index: u32, act: &Act) -> bool
     requires small { IsSmallApp app.now }
     requires index { index < code_len app.now 0 }
-    ensures { IsTrue result ↔ IsThreadCall app.now (Some act) (named_at app.now 0 index) }
+    ensures { IsTrue result ↔ IsThreadCall app.now (Some act.now) (named_at app.now 0 index) }
 {
-    let Act::Call { .. } = act else {
+    let Act::Call { by, .. } = *act else {
         return false;
     };
     match app.named(CALLBACK, index) {
-        Some(named) => is_thread(app, named.class) || app.type_text(named.class) == EXECUTORS,
+        Some(named) => {
+            !is_static(by)
+                && (is_thread(app, named.class) || app.type_text(named.class) == EXECUTORS)
+        }
         None => false,
     }
+}
+
+fn is_static(by: By) -> bool
+    ensures { result ≡ spec.is_static by }
+{
+    matches!(by, By::Static)
 }
 
 // Whether a type is or inherits a thread type.

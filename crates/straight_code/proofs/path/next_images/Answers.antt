@@ -7,6 +7,6 @@ use Rattle.straight_code.proofs.path.next_images.Goals as goal
 -- src/path.rt:146:1
 pub returns : goal.returns
 returns c = λ app i there row are.
-    next_images app i c.args.act there c.column_of-column.result c.args.images.now _ _ _ _ _ _ _ _
-    (subst (λ (r : List Tag). IsColumn c.args.act r c.column_of-column.result) row c.column_of-column.ensures) are
+    next_images app i c.args.act.now there c.column_of-column.result c.args.images.now _ _ _ _ _ _ _ _
+    (subst (λ (r : List Tag). IsColumn c.args.act.now r c.column_of-column.result) row c.column_of-column.ensures) are
     c.image.ensures c.image-2.ensures c.image-3.ensures c.image-4.ensures c.image-5.ensures c.image-6.ensures c.image-7.ensures c.image-8.ensures

@@ -35,9 +35,9 @@ returns-clause-exact c =
     let one = c.requires.small.locks in
     let listed : c.in_ok-list_violations.field-0.items ≡ violations_below c.held_at_end.result 8 = search rules in
     let each = subst (λ (n : ℕ). (k : ℕ) → k < n → IsAllowed app k) at_end i.1 in (
-      record { plain = plain; scope = in_scope app plain each (search (rules, i.2, at_end)) },
+      record { plain = plain; scope = in_scope app c.requires.small plain each (search (rules, i.2, at_end)) },
       subst (λ (vs : List Violation). AreViolations (path_subject app) vs) (sym listed)
-          (are_violations app one c.held_at_end.result (are_ends app plain c.loop-index.walk walk one c.held_at_end.result c.held_at_end.ensures)),
+          (are_violations app one c.held_at_end.result (are_ends app c.requires.small plain c.loop-index.walk walk one c.held_at_end.result c.held_at_end.ensures)),
     )
 
 -- src/verdict.rt:33:1
@@ -51,9 +51,9 @@ returns-clause-sound c =
     let one = c.requires.small.locks in
     let listed : c.in_ok-list_violations.field-0.items ≡ violations_below c.held_at_end.result 8 = search rules in
     let each = subst (λ (n : ℕ). (k : ℕ) → k < n → IsAllowed app k) at_end i.1 in
-    let found = are_violations app one c.held_at_end.result (are_ends app plain c.loop-index.walk walk one c.held_at_end.result c.held_at_end.ensures) in
+    let found = are_violations app one c.held_at_end.result (are_ends app c.requires.small plain c.loop-index.walk walk one c.held_at_end.result c.held_at_end.ensures) in
     λ none.
     let empty = sym listed ∙ some_same c.in_ok-list_violations.field-0.items [] none in
-    safe app one (record { plain = plain; scope = in_scope app plain each (search (rules, i.2, at_end)) })
-    (ends_exact app plain c.loop-index.walk walk one c.held_at_end.result c.held_at_end.ensures)
+    safe app c.requires.small (record { plain = plain; scope = in_scope app c.requires.small plain each (search (rules, i.2, at_end)) })
+    (ends_exact app c.requires.small plain c.loop-index.walk walk one c.held_at_end.result c.held_at_end.ensures)
     (subst (λ (vs : List Violation). AreViolations (path_subject app) vs) empty found) c.soundness.ensures.runs c.soundness.ensures.counts
