@@ -28,7 +28,7 @@ use Rattle.flow_model.specs.Status.{only}
 use Rattle.flow_model.specs.Passes.{if_passes, passes, passes_by, slot_passes, stored_passes, test_passes, throws, throws_by}
 use Rattle.flow_model.specs.Subject.{is_return}
 use Rattle.flow_model.proofs.MaskLaws.{IsIn-zero}
-use Rattle.flow_model.specs.Rules.{I1_return}
+use Rattle.flow_model.specs.Rules.{I1_return, by_method}
 use Rattle.flow_model.specs.Scope.{is_escape, may_be_lock, may_be_stored}
 use Rattle.app_model.specs.Subject.{SubjectParts, slot_count}
 use Rattle.run_model.specs.Heaps.{Value, Zero, Nonzero, Object, LockRef, Heap, Lock, cell, cell_value, counter_at, is_lock, is_lost, is_null, is_owned, lock_at, status, with_null, with_stored}
@@ -327,14 +327,15 @@ module _ (x : SubjectParts) (own : ℕ) (set_of : Set) (p : Premises x own set_o
         rw p.callback.there (record {
           before = p.at;
           edge = p.edge;
-          root = p.root;
           s0 = p.s0;
+          needs = Ret p.root (start_status x own set_of p) (status h own) ∷ [];
           callback = p.callback;
           same_component = refl;
           same_edge = refl;
           states = refl;
           heap = ok;
-          ret = subst₂ (λ m e. set_of (Ret m e (status h own)) ≡ true) b.0 b.1 ret;
+          carried = by_method p.root p.method;
+          has = (subst₂ (λ m e. set_of (Ret m e (status h own)) ≡ true) b.0 b.1 ret, tt);
         })
     returns_ok answer is v (g ∷ frames) b = absurd (b.2.call)
 
