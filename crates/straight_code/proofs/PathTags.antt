@@ -105,9 +105,6 @@ module _ (app : AppParts) (small : IsSmallApp app) (plain : IsPlainBody app) (sc
     throws = λ m i k j a e live there can handler. absurd (uncaught i k j (subst (λ n. handler_at app n i k ≡ Some j) (entered_zero m e) handler));
     no_escape = λ m i e. subst (λ n. is_escape (act_at app n i) (row_at x n i) ≡ false) (sym (entered_zero m e)) (safe_act i).0;
     no_wrong_call = λ m i e. subst (λ n. is_wrong_call (act_at app n i) (row_at x n i) ≡ false) (sym (entered_zero m e)) (safe_act i).1;
-    slots = λ m i from l when e there. slot_there i from l when (subst (λ n. act_at app n i ≡ Some (WriteSlot from l when)) (entered_zero m e) there);
     outside = λ m i by usage arguments gives e there. let z = entered_zero m e in
         subst (λ n. outside_at x n i ≡ true) (sym z) (outside_is app i (within i (Call by usage arguments gives) (subst (λ n. act_at app n i ≡ Some (Call by usage arguments gives)) z there)));
-    alone = omega arith;
-    has_callbacks = there_is;
   }
