@@ -1,15 +1,14 @@
 -- Small applications, and what is seen of runs of them.
-use Rattle.std.specs.Prelude.{ℕ, ◌≡◌, ℤ, pos, Bool, true, false, List, [], ◌∷◌, ◌++◌, length, map, replicate, Option, Some, None, codes}
+use Rattle.std.specs.Prelude.{ℕ, ◌≡◌, pos, true, List, [], ◌∷◌, ◌++◌, length, map, replicate, Option, Some, None, codes}
 use Rattle.std.specs.List.{range_with_len}
 use Rattle.ns_base.specs.declared.rows.ComponentNo.{ComponentNo}
 use Rattle.ns_base.specs.declared.rows.MethodNo.{MethodNo}
 use Rattle.ns_base.specs.declared.rows.TypeNo.{TypeNo}
 use Rattle.dalvik.specs.declared.body.Place.{Place}
-use Rattle.dalvik.specs.declared.ins.Args.{Args}
 use Rattle.dalvik.specs.declared.ins.Args.TheVariants as args
 use Rattle.dalvik.specs.declared.ins.Ins.{Ins}
 use Rattle.dalvik.specs.declared.ins.Ins.TheVariants as ins
-use Rattle.dalvik.specs.declared.opcode.TheConstants.{AGET_WIDE, CONST_4, DIV_INT, DIV_INT_LIT8, IF_EQZ, IF_NEZ, INVOKE_VIRTUAL, IPUT, IPUT_OBJECT, MONITOR_ENTER, MOVE_RESULT_OBJECT, MOVE_WIDE, PACKED_SWITCH, SGET_OBJECT, SPUT_OBJECT}
+use Rattle.dalvik.specs.declared.opcode.TheConstants.{AGET_WIDE, APUT_OBJECT, CONST_4, DIV_INT, DIV_INT_LIT8, IF_EQZ, IF_NEZ, INVOKE_VIRTUAL, IPUT, IPUT_OBJECT, MONITOR_ENTER, MOVE_RESULT_OBJECT, MOVE_WIDE, PACKED_SWITCH, SGET_OBJECT, SPUT_OBJECT}
 use Rattle.app_model.specs.declared.component.Kind.TheVariants.{Receiver, Runnable, Service}
 use Rattle.app_model.specs.declared.rows.MethodRow.{MethodRow}
 use Rattle.app_model.specs.declared.rows.Operand.{Operand}
@@ -19,7 +18,7 @@ use Rattle.app_model.specs.Names.{power_manager_name, string_name, wake_lock_nam
 use Rattle.app_model.specs.Parts.{AppParts, ClassParts, ProtoParts}
 use Rattle.app_model.specs.Subject.{SubjectParts, slot_count}
 use Rattle.run_model.specs.Heaps.{Value, Zero, Nonzero, Object, Heap, status}
-use Rattle.run_model.specs.Machine.{Reason, State, Idle, Running, AtEnd, Over, Uncaught, Stuck, options_of, run_of}
+use Rattle.run_model.specs.Machine.{Reason, State, Idle, Running, AtEnd, Over, Uncaught, Stuck, Escape, options_of, run_of}
 
 -- ---- what is seen of a state: the components' states or the instruction and its registers, and the lock fields' statuses
 pub data Sight : Type 0 where
@@ -220,17 +219,27 @@ in_static = ins.StaticPut SPUT_OBJECT 0 0
 abbrev pub leaking_app : AppParts
 leaking_app = lock_app 8 (making in_static ++ returning 11 ∷ []) (making_names ++ operand.Plain ∷ [])
 
--- the receiver alone; with a release; with an instance field, which it owns
+abbrev pub release_before : (pc next : ℕ) → Place
+release_before pc next = place pc (ins.Invoke INVOKE_VIRTUAL 2 (args.List 1 (0 ∷ 0 ∷ 0 ∷ 0 ∷ 0 ∷ []))) (next ∷ []) []
+
+-- the receiver alone; with a release, and with two; with an instance field, which it owns
 unfoldable pub leaking : SubjectParts
 leaking = subject leaking_app (receiver ∷ []) (None ∷ [])
 
 unfoldable pub working : SubjectParts
-working = subject
-    (lock_app 8 (making in_static ++ place 11 (ins.Invoke INVOKE_VIRTUAL 2 (args.List 1 (0 ∷ 0 ∷ 0 ∷ 0 ∷ 0 ∷ []))) (6 ∷ []) [] ∷ returning 14 ∷ []) (making_names ++ calls 3 6 0 ∷ operand.Plain ∷ []))
+working = subject (lock_app 8 (making in_static ++ release_before 11 6 ∷ returning 14 ∷ []) (making_names ++ calls 3 6 0 ∷ operand.Plain ∷ [])) (receiver ∷ []) (None ∷ [])
+
+unfoldable pub failing : SubjectParts
+failing = subject
+    (lock_app 8 (making in_static ++ release_before 11 6 ∷ release_before 14 7 ∷ returning 17 ∷ []) (making_names ++ calls 3 6 0 ∷ calls 3 6 0 ∷ operand.Plain ∷ []))
     (receiver ∷ []) (None ∷ [])
 
 unfoldable pub owning : SubjectParts
 owning = subject (lock_app 0 (making (ins.FieldPut IPUT_OBJECT 0 2 0) ++ returning 11 ∷ []) (making_names ++ operand.Plain ∷ [])) (receiver ∷ []) (Some (record { 0 = 0 }) ∷ [])
+
+-- its lock goes to an array in place of the field
+unfoldable pub giving : SubjectParts
+giving = subject (lock_app 8 (making (ins.ArrayPut APUT_OBJECT 0 1 0) ++ returning 11 ∷ []) (making_names ++ operand.Plain ∷ [])) (receiver ∷ []) (None ∷ [])
 
 -- the receiver and the service
 unfoldable pub pair : SubjectParts
@@ -249,7 +258,14 @@ LeavesHeld = seen leaking received ≡ Ends (0 ∷ []) (2 ∷ [])
 abbrev pub LeavesFree : Type 0
 LeavesFree = seen working (acquired ++ 0 ∷ 0 ∷ []) ≡ Ends (0 ∷ []) (1 ∷ [])
 
--- newWakeLock throws in place of that
+-- a release of a lock whose count is zero throws
+abbrev pub ReleaseThrows : Type 0
+ReleaseThrows = next_seen failing (acquired ++ 0 ∷ 0 ∷ []) ≡ Breaks Uncaught ∷ []
+
+abbrev pub LockEscapes : Type 0
+LockEscapes = next_seen giving (0 ∷ 3 ∷ 0 ∷ 0 ∷ []) ≡ Breaks Escape ∷ Breaks Uncaught ∷ []
+
+-- newWakeLock throws
 abbrev pub MakingThrows : Type 0
 MakingThrows = seen leaking (0 ∷ 3 ∷ 1 ∷ []) ≡ Breaks Uncaught
 

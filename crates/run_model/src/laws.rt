@@ -11,7 +11,7 @@ ghost use Rattle.run_model.specs.Machine.{Callback, Frame, Idle, Running, option
 ghost use Rattle.run_model.specs.Relation.{Each, IsHeap, IsIdle, IsInside, IsSound};
 ghost use Rattle.run_model.specs.Soundness.{HoldsLock, LeavesNoneHeld, StandsWell};
 ghost use Rattle.run_model.specs.Tagged.{IsTagged};
-ghost use Rattle.run_model.specs.Worked.{ClearsOwned, CopyDown, CopyUp, DivisionByTwo, DivisionThrows, KeepsStatic, LeavesFree, LeavesHeld, LosesLock, MakingThrows, MonitorOnNull, MonitorOnObject, NonzeroBranches, OutsideEnds, ReceiverFirst, ServiceFirst, StoreToNull, StoreToObject, SwitchGoes, WideRead, ZeroBranches};
+ghost use Rattle.run_model.specs.Worked.{ClearsOwned, CopyDown, CopyUp, DivisionByTwo, DivisionThrows, KeepsStatic, LeavesFree, LeavesHeld, LockEscapes, LosesLock, MakingThrows, MonitorOnNull, MonitorOnObject, NonzeroBranches, OutsideEnds, ReceiverFirst, ReleaseThrows, ServiceFirst, StoreToNull, StoreToObject, SwitchGoes, WideRead, ZeroBranches};
 
 /// Soundness: what a closed set of facts that meets the policy says of every run. The relation between the set and the
 /// state in which a run stands needs no policy.
@@ -48,6 +48,8 @@ pub fn worked_runs()
     ensures down { CopyDown }
     ensures held { LeavesHeld }
     ensures free { LeavesFree }
+    ensures release { ReleaseThrows }
+    ensures escape { LockEscapes }
     ensures throws { MakingThrows }
     ensures lost { LosesLock }
     ensures kept { KeepsStatic }

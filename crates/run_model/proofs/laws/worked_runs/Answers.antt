@@ -43,6 +43,12 @@ returns-clause-held c = lock_runs.held
 pub returns-clause-free : goal.returns-clause-free
 returns-clause-free c = lock_runs.free
 
+pub returns-clause-release : goal.returns-clause-release
+returns-clause-release c = lock_runs.release
+
+pub returns-clause-escape : goal.returns-clause-escape
+returns-clause-escape c = lock_runs.escape
+
 pub returns-clause-throws : goal.returns-clause-throws
 returns-clause-throws c = lock_runs.throws
 
