@@ -179,8 +179,12 @@ making store =
     ∷ place 8 (ins.Invoke INVOKE_VIRTUAL 1 (args.List 1 (0 ∷ 0 ∷ 0 ∷ 0 ∷ 0 ∷ []))) (5 ∷ []) []
     ∷ []
 
-abbrev pub making_names : List Operand
-making_names = accesses 0 3 2 ∷ calls 2 4 2 ∷ operand.Plain ∷ accesses 0 2 3 ∷ calls 3 5 0 ∷ []
+-- the lock field
+abbrev pub the_lock : Operand
+the_lock = accesses 0 2 3
+
+abbrev pub making_names : (stored : Operand) → List Operand
+making_names stored = accesses 0 3 2 ∷ calls 2 4 2 ∷ operand.Plain ∷ stored ∷ calls 3 5 0 ∷ []
 
 abbrev pub releasing : List Place
 releasing =
@@ -191,7 +195,7 @@ releasing =
     ∷ []
 
 abbrev pub releasing_names : List Operand
-releasing_names = accesses 0 2 3 ∷ operand.Plain ∷ calls 3 6 0 ∷ operand.Plain ∷ []
+releasing_names = the_lock ∷ operand.Plain ∷ calls 3 6 0 ∷ operand.Plain ∷ []
 
 -- R.onReceive(Context, Intent) has that code and then the given one, S.onCreate() releases
 abbrev pub lock_app : (flags : ℕ) → List Place → List Operand → AppParts
@@ -217,7 +221,7 @@ abbrev pub in_static : Ins
 in_static = ins.StaticPut SPUT_OBJECT 0 0
 
 abbrev pub leaking_app : AppParts
-leaking_app = lock_app 8 (making in_static ++ returning 11 ∷ []) (making_names ++ operand.Plain ∷ [])
+leaking_app = lock_app 8 (making in_static ++ returning 11 ∷ []) (making_names the_lock ++ operand.Plain ∷ [])
 
 abbrev pub release_before : (pc next : ℕ) → Place
 release_before pc next = place pc (ins.Invoke INVOKE_VIRTUAL 2 (args.List 1 (0 ∷ 0 ∷ 0 ∷ 0 ∷ 0 ∷ []))) (next ∷ []) []
@@ -227,19 +231,19 @@ unfoldable pub leaking : SubjectParts
 leaking = subject leaking_app (receiver ∷ []) (None ∷ [])
 
 unfoldable pub working : SubjectParts
-working = subject (lock_app 8 (making in_static ++ release_before 11 6 ∷ returning 14 ∷ []) (making_names ++ calls 3 6 0 ∷ operand.Plain ∷ [])) (receiver ∷ []) (None ∷ [])
+working = subject (lock_app 8 (making in_static ++ release_before 11 6 ∷ returning 14 ∷ []) (making_names the_lock ++ calls 3 6 0 ∷ operand.Plain ∷ [])) (receiver ∷ []) (None ∷ [])
 
 unfoldable pub failing : SubjectParts
 failing = subject
-    (lock_app 8 (making in_static ++ release_before 11 6 ∷ release_before 14 7 ∷ returning 17 ∷ []) (making_names ++ calls 3 6 0 ∷ calls 3 6 0 ∷ operand.Plain ∷ []))
+    (lock_app 8 (making in_static ++ release_before 11 6 ∷ release_before 14 7 ∷ returning 17 ∷ []) (making_names the_lock ++ calls 3 6 0 ∷ calls 3 6 0 ∷ operand.Plain ∷ []))
     (receiver ∷ []) (None ∷ [])
 
 unfoldable pub owning : SubjectParts
-owning = subject (lock_app 0 (making (ins.FieldPut IPUT_OBJECT 0 2 0) ++ returning 11 ∷ []) (making_names ++ operand.Plain ∷ [])) (receiver ∷ []) (Some (record { 0 = 0 }) ∷ [])
+owning = subject (lock_app 0 (making (ins.FieldPut IPUT_OBJECT 0 2 0) ++ returning 11 ∷ []) (making_names the_lock ++ operand.Plain ∷ [])) (receiver ∷ []) (Some (record { 0 = 0 }) ∷ [])
 
 -- its lock goes to an array in place of the field
 unfoldable pub giving : SubjectParts
-giving = subject (lock_app 8 (making (ins.ArrayPut APUT_OBJECT 0 1 0) ++ returning 11 ∷ []) (making_names ++ operand.Plain ∷ [])) (receiver ∷ []) (None ∷ [])
+giving = subject (lock_app 8 (making (ins.ArrayPut APUT_OBJECT 0 1 0) ++ returning 11 ∷ []) (making_names operand.Plain ++ operand.Plain ∷ [])) (receiver ∷ []) (None ∷ [])
 
 -- the receiver and the service
 unfoldable pub pair : SubjectParts
