@@ -1,5 +1,5 @@
 -- The index from types to classes, filled from the last class to the first.
-use Rattle.std.proofs.Common.{◌≡◌, ◌≢◌, ℕ, ◌<◌, ◌≤◌, false, List, length, drop, get_or, sym, arith, [], Option, Some, None, IfSome, option_map, eqb, ⊎_elim, ◌∙◌, ap, subst}
+use Rattle.std.proofs.Common.{◌≡◌, ◌≢◌, ℕ, ◌<◌, ◌≤◌, List, length, drop, get_or, sym, arith, [], Option, Some, None, IfSome, option_map, eqb, ◌∙◌, ap, subst}
 use Rattle.std.proofs.lemmas.Bool.{eq-eqb, ne_eqb}
 use Rattle.std.proofs.lemmas.Iterator.Adapters.{position_from-zero}
 use Rattle.std.proofs.lemmas.List.Quantifiers.{position-Some}
@@ -7,9 +7,8 @@ use Rattle.std.proofs.lemmas.Option.{slice_get_within, get_or_from_slice_get}
 use Rattle.std.specs.List.{position_from}
 use Rattle.ns_base.specs.declared.rows.ClassNo.{ClassNo}
 use Rattle.app_model.specs.Hierarchy.{class_of_type}
-use Rattle.app_model.specs.Parts.{AppParts, ClassParts}
+use Rattle.app_model.specs.Parts.{ClassParts}
 use Rattle.app_model.specs.Index.{IsIndex}
-use Rattle.app_model.specs.Sound.{IsSoundApp}
 use Rattle.app_model.proofs.Searches.{position_here, position_none}
 
 -- the walk over the classes
