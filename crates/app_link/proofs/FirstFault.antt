@@ -9,7 +9,7 @@ use Rattle.app_link.specs.declared.code_checks.CodeWrong.{CodeWrong}
 use Rattle.app_link.specs.declared.code_checks.CodeWrong.TheVariants.{Missing, Unwanted}
 use Rattle.dex_file.specs.Content.{FileContent}
 use Rattle.app_rows.specs.Linked.{linked}
-use Rattle.app_link.specs.LinkFaults.{◌or◌, duplicate_of, duplicate_fault, code_fault, code_fault_from, wrong_in_classes, units_fault, locks_fault, sites_fault}
+use Rattle.app_link.specs.LinkFaults.{◌or◌, duplicate_of, duplicate_fault, code_fault, code_fault_from, wrong_in_classes, units_fault, locks_fault}
 use Rattle.app_link.specs.Linking.{IsLinked, IsWithin, IsChecked, IsAcyclic, early_fault, late_fault}
 use Rattle.app_link.proofs.Ancestry.{at_get}
 

@@ -1,5 +1,5 @@
 -- What holds of an application that was linked.
-use Rattle.std.proofs.Common.{Result, IfOk, Err, ◌≡◌, ◌≢◌, ◌<◌, ◌≤◌, ◌+◌, ◌⊎◌, inl, inr, nat_eq, nat_lt, bytes_eq, ℕ, zero, suc, true, false, List, [], ◌∷◌, ◌++◌, length, get_or, slice_get, slice_index_or, position, cond, ltb, sum_by, Option, Some, None, option_map, Ok, All, AllPairs, Contains, refl, sym, ap, subst, ◌∙◌, ⊎_elim, arith, true≢false, length-append}
+use Rattle.std.proofs.Common.{◌≡◌, ◌≢◌, ◌<◌, ◌≤◌, ◌+◌, ◌⊎◌, inl, inr, nat_eq, nat_lt, bytes_eq, ℕ, zero, suc, true, false, List, [], ◌∷◌, ◌++◌, length, get_or, slice_get, slice_index_or, position, cond, ltb, sum_by, Option, Some, None, option_map, Ok, All, AllPairs, Contains, refl, sym, ap, subst, ◌∙◌, ⊎_elim, arith, true≢false, length-append}
 use Rattle.std.specs.List.{position_or_len}
 use Rattle.std.proofs.lemmas.Bool.{cases_Bool, ltb-false}
 use Rattle.std.proofs.lemmas.Bool.Decides.{nat_tests}
@@ -8,7 +8,7 @@ use Rattle.std.proofs.lemmas.List.Elements.{All-cons}
 use Rattle.std.proofs.lemmas.List.Kept.{AllPairs-cons}
 use Rattle.std.proofs.lemmas.Slice.Eq.{bytes_eq-Decides}
 use Rattle.ns_base.specs.declared.rows.FieldNo.{FieldNo}
-use Rattle.ns_base.specs.declared.answers.Counted.TheVariants.{Units}
+use Rattle.ns_base.specs.declared.answers.Counted.TheVariants.{Locks, Units}
 use Rattle.app_model.specs.declared.rows.FieldRow.{FieldRow}
 use Rattle.app_model.specs.Names.{type_text, wake_lock_name}
 use Rattle.app_model.specs.Parts.{AppParts}
@@ -24,12 +24,13 @@ use Rattle.app_rows.specs.Numbers.{seen_in}
 use Rattle.app_rows.proofs.Fitting.{IsCoded, AreCoded, methods_sound, bodies_sound, instructions_few}
 use Rattle.app_rows.proofs.Once.{spelled_once}
 use Rattle.app_rows.proofs.Ranges.{in_range}
-use Rattle.app_link.specs.declared.link_fault.LinkFault.{LinkFault}
+use Rattle.app_rows.proofs.SeenLengths.{small_app}
+use Rattle.app_rows.specs.Small.{AreSmall}
 use Rattle.app_link.specs.declared.link_fault.LinkFault.TheVariants.{Limit}
 use Rattle.app_link.specs.declared.class_checks.Repeat.{Repeat}
 use Rattle.app_link.specs.declared.code_checks.CodeWrong.TheVariants.{Missing, Unwanted}
 use Rattle.app_link.specs.LinkFaults.{◌or◌, above, class_counts, class_names, duplicate_fault, locks_fault, sites_fault, units_fault, code_fault, code_fault_from, duplicate_of, is_wrong, repeat_at, repeat_from, wrong_in, wrong_in_class, wrong_in_classes}
-use Rattle.app_link.specs.Linking.{IsAcyclic, IsChecked, IsLinked, early_fault, late_fault}
+use Rattle.app_link.specs.Linking.{IsAcyclic, IsChecked, IsLinked, early_fault}
 use Rattle.app_link.proofs.Ancestry.{at_get}
 
 none_both : {A : Type 0} (a b : Option A) → (a or b) ≡ None → (a ≡ None) × (b ≡ None)
@@ -218,9 +219,15 @@ contents_sound : (files : List FileContent) (app : AppParts) → All IsContent f
 contents_sound files app are sizes is early acyclic few =
     subst IsSoundApp (sym is) (linked_sound files (λ k d below. content_sound (get_or files k d) (are k d below)) (subst IsApp is sizes) early acyclic few)
 
-pub app_sound : (files : List FileContent) (app : AppParts) → All IsContent files → IsApp app → IsLinked files (Ok app) → IsSoundApp app
-app_sound files app are sizes is =
-    contents_sound files app are sizes is.0 is.1 is.2 (none_both (units_fault files) (locks_fault (linked files) or sites_fault (linked files)) is.3).0
+few_locks : (app : AppParts) → locks_fault app ≡ None → length app.locks ≤ 64
+few_locks app h =
+    ⊎_elim (λ (yes : nat_lt 64 (length app.locks) ≡ true). absurd (let some : Some (Limit Locks) ≡ None = rw yes at h in let no : ⊥ = cc in no)) (λ (no : nat_lt 64 (length app.locks) ≡ false). not_more 64 (length app.locks) no) (cases_Bool (nat_lt 64 (length app.locks)))
+
+pub app_sound : (files : List FileContent) (app : AppParts) → AreSmall files → All IsContent files → IsLinked files (Ok app) → IsSoundApp app
+app_sound files app small are is =
+    let late = none_both (units_fault files) (locks_fault (linked files) or sites_fault (linked files)) is.3 in
+    let locks = none_both (locks_fault (linked files)) (sites_fault (linked files)) late.1 in
+    contents_sound files app are (subst IsApp (sym is.0) (small_app files small (few_locks (linked files) locks.0))) is.0 is.1 is.2 late.0
 
 pub rows_sound : (files : List FileContent) (rows : AppParts) → All IsContent files → IsApp rows → IsChecked files (Ok rows) → IsSoundApp rows
 rows_sound files rows are sizes is = contents_sound files rows are sizes is.0 is.1 is.2 is.3

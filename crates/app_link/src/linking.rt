@@ -118,9 +118,9 @@ pub fn link(alloc: Global, files: Vec<DexParts>) -> Result<App, LinkFault>
     }
 }
 
-/// What holds of the application of files that were read: each number is a row of its table, what is
+/// What holds of the application of small files that were read: each number is a row of its table, what is
 /// spelled alike has one number, no class is its own ancestor, the lock fields are those of the wake
 /// lock's type, and code fits its methods.
 pub fn app_law()
-    ensures { (files : List FileContent) (app : AppParts) → All IsContent files → IsApp app → IsLinked files (Ok app) → IsSoundApp app }
+    ensures { (files : List FileContent) (app : AppParts) → AreSmall files → All IsContent files → IsLinked files (Ok app) → IsSoundApp app }
 {}

@@ -8,7 +8,6 @@ pub mod Sites
 pub mod Hierarchy
 pub mod Index
 pub mod Slots
-pub mod Subtypes
 pub mod Components
 pub mod CallGraph
 pub mod TagTable

@@ -1,7 +1,8 @@
 //! A linked application.
-ghost use Rattle.std.specs.Prelude.{◌≡◌, ◌<◌, IfOk, is_some, length, slice_get, Some};
+ghost use Rattle.std.specs.Prelude.{◌≡◌, ◌<◌, IfOk, IfSome, is_some, length, slice_get, Some};
 ghost use Rattle.app_model.specs.LockUse.{invoke_of};
-ghost use Rattle.app_model.specs.Sound.{IsSoundApp, IsProtoRow, IsClassRow, IsMethodRow, IsFieldRow};
+ghost use Rattle.app_model.specs.Sound.{IsSoundApp, IsProtoRow, IsClassRow, IsMethodRow, IsFieldRow, IsOperand};
+ghost use Rattle.app_model.specs.declared.rows.Operand.TheVariants.{Invoke};
 ghost use Rattle.app_model.specs.Words.{places_of, place_at, operand_at, code_len, ins_at, pc_at, successor_at, handler_at, leaves_at, named_at};
 
 use crate::hierarchy::index_types;
@@ -193,6 +194,7 @@ impl App {
         requires method { method.0 < length self.now.methods }
         requires index { index < code_len self.now method.0 }
         ensures is { result ≡ named_at self.now method.0 index }
+        ensures sound { IfSome result (λ named. IsOperand self.now (Invoke named)) }
         ensures exact { is_some result ≡ is_some (invoke_of (ins_at self.now method.0 index)) }
     {
         match self.operand(method, index) {
@@ -225,6 +227,7 @@ impl App {
         requires method { method.0 < length self.now.methods }
         requires index { index < code_len self.now method.0 }
         ensures is { operand_at self.now method.0 index ≡ Some result }
+        ensures sound { IsOperand self.now result }
         ensures exact { is_some (named_at self.now method.0 index) ≡ is_some (invoke_of (ins_at self.now method.0 index)) }
     {
         self.rows.operands[method.0 as usize][index as usize]

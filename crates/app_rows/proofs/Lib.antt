@@ -5,3 +5,4 @@ pub mod Once
 pub mod Ranges
 pub mod Spelling
 pub mod Fitting
+pub mod SeenLengths

@@ -1,22 +1,23 @@
 -- The start of a callback, and its end.
 use Rattle.std.proofs.Common.{◌≡◌, ℕ, zero, suc, ◌+◌, ◌<◌, Bool, true, false, if◌then◌else◌, List, [], ◌∷◌, length, Option, Some, None, refl, sym, ap, ◌∙◌, inr, ⊎_elim, arith, subst, subst₂}
 use Rattle.std.specs.Prelude.{slice_get, slice_index, slice_set as set_at, ◌==◌}
-use Rattle.std.proofs.lemmas.Bool.{cases_Bool, eqb-true, false_from_ne_true}
-use Rattle.std.proofs.lemmas.List.{get_or-set_same, length-set}
+use Rattle.std.proofs.lemmas.Bool.{cases_Bool, cases_eq, eqb-true, false_from_ne_true}
+use Rattle.std.proofs.lemmas.List.{get_or-set_same, get_or-set_other, length-set}
 use Rattle.app_model.specs.declared.component.Edge.{Edge}
 use Rattle.app_model.specs.Components.{ComponentParts, edges_of, edge_of, edge_at, callback_at, exits_at}
-use Rattle.flow_model.specs.Derived.{Set, IsClosed}
+use Rattle.flow_model.specs.Derived.{Set, HasAll, IsClosed}
 use Rattle.act_model.specs.Entries.{callback_row}
-use Rattle.app_model.specs.Facts.{View, At, Ret}
+use Rattle.app_model.specs.Facts.{Fact, View, At}
 use Rattle.flow_model.specs.Policy.{MeetsPolicy}
 use Rattle.app_model.specs.Masks.{in_mask, is_held}
-use Rattle.flow_model.specs.Rules.{Carries, Inner, Between, V3, V4, by_method, clears, entered}
+use Rattle.flow_model.specs.Rules.{Carries, Inner, Between, V2, V3, V4, V5, by_method, outside, clears, entered}
 use Rattle.flow_model.specs.Status.{reset}
 use Rattle.app_model.specs.Subject.{SubjectParts, answers_at, row_at, slot_count}
 use Rattle.flow_model.specs.Subject.{status_masks}
 use Rattle.run_model.specs.Heaps.{Value, Heap, status, with_cleared, cleared_cells, is_lost, counter_at, cell, status_of}
 use Rattle.run_model.specs.Machine.{Callback, Running, edge_starts, starts, begins, entered_frame, entries_of, this_of}
-use Rattle.run_model.specs.Relation.{AreTagged, AreViews, Each, ExitsWell, IsCallback, IsEnded, IsHeap, IsIdle, IsInside}
+use Rattle.run_model.specs.Relation.{AreTagged, AreViews, Each, IsCallback, IsEnded, IsHeap, IsIdle, IsInside}
+use Rattle.run_model.specs.Soundness.{ExitsWell}
 use Rattle.run_model.specs.Tagged.{IsEntered, IsTagged}
 use Rattle.flow_model.proofs.TestLaws.{none_some}
 use Rattle.run_model.proofs.Members.{each_append, each_if, each_map}
@@ -72,7 +73,8 @@ module _ (x : SubjectParts) (own : ℕ) (set : Set) (tg : IsTagged x) (cl : IsCl
         edge = edge;
         root = m;
         s0 = status h own;
-        callback = record { views = idle.views; component = lt; there = there; from = from; method = method };
+        callback = record { views = idle.views; component = lt; there = there; from = from };
+        method = method;
         heap = cleared_heap h (clears x c edge) (slot_count x) idle.heap;
         stack = record {
           e = entered x own c edge (status h own);
@@ -86,7 +88,23 @@ module _ (x : SubjectParts) (own : ℕ) (set : Set) (tg : IsTagged x) (cl : IsCl
       }
 
   begins_ok : (c e : ℕ) (edge : Edge) → edge_at x.list c e ≡ Some edge → edge.from ≡ slice_index states c → (o : Option ℕ) → callback_at x.list c edge.callback ≡ o → Each (IsInside x own set) (begins x states h c e edge o)
-  begins_ok c e edge there from None none = absurd (let m = tg.has_callbacks c e edge there in none_some m.0 _ none m.1)
+  begins_ok c e edge there from None none =
+      let lt = component_there x.list c e edge there in (
+        record {
+          before = record { states = states; component = c; edge = e };
+          edge = edge;
+          s0 = status h own;
+          needs = [];
+          callback = record { views = idle.views; component = lt; there = there; from = from };
+          same_component = refl;
+          same_edge = refl;
+          states = refl;
+          heap = cleared_heap h (clears x c edge) (slot_count x) idle.heap;
+          carried = outside none (entered_status x own c edge (slot_count x) h idle.heap);
+          has = tt;
+        },
+        tt,
+      )
   begins_ok c e edge there from (Some m) method =
       each_map (λ values. AreTagged (callback_row x.app (slice_get x.app.methods m)) values (length h.locks) (length h.locks) (with_cleared h (clears x c edge))) (IsInside x own set) _
       (begin_one c e edge m there from method) (entries_of x.app (this_of x.app (slice_get x.list c)) (slice_get x.app.methods m))
@@ -115,49 +133,59 @@ module _ (x : SubjectParts) (own : ℕ) (set : Set) (tg : IsTagged x) (cl : IsCl
   idle_ok = starts_ok 0 x.list (λ i. ap (slice_get x.list) (let z : i ≡ 0 + i = omega arith in z))
 
 -- ---- the end of a callback
-module _ (x : SubjectParts) (own : ℕ) (set : Set) (tg : IsTagged x) (cl : IsClosed (Between x (Carries x own)) set) where
-  -- what its component may be in; there is no other one
-  end_views : (before : Callback) (edge : Edge) (root s0 t : ℕ) → IsCallback x set before edge root s0 → set (Ret root (entered x own before.component edge s0) t) ≡ true → AreViews x set (set_at before.states before.component edge.to) t
-  end_views before edge root s0 t cb ret =
-      let within : before.component < length before.states = omega (arith, cb.views.count, cb.component) in
-      let to : slice_index (set_at before.states before.component edge.to) before.component ≡ edge.to = get_or-set_same before.states before.component edge.to 0 within in
-      let own_view = cb.views.each before.component cb.component in
-      let next : set (View before.component edge.to t) ≡ true = cl.by _ _ (V4 before.edge root cb.there cb.from refl cb.method (by_method root cb.method)) (own_view, (ret, tt)) in
-      record {
-        count = length-set before.states before.component edge.to ∙ cb.views.count;
-        each = λ d lt.
-            let same : d ≡ before.component = omega (arith, tg.alone, cb.component) in
-            subst (λ n. set (View n (slice_index (set_at before.states before.component edge.to) n) t) ≡ true) (sym same)
-            (subst (λ q. set (View before.component q t) ≡ true) (sym to) next);
-      }
+module _ (x : SubjectParts) (own : ℕ) (set : Set) where
+  -- what its component may be in
+  moved_view : IsClosed (Between x (Carries x own)) set → (before : Callback) (edge : Edge) (s0 t : ℕ) (needs : List Fact) → IsCallback x set before edge s0 → Carries x own before.component edge s0 t needs → HasAll set needs → set (View before.component edge.to t) ≡ true
+  moved_view cl before edge s0 t needs cb (outside none now) has =
+      cl.by _ _ (V2 before.edge cb.there cb.from refl none (outside none now)) (cb.views.each before.component cb.component, has)
+  moved_view cl before edge s0 t needs cb (by_method m is) has =
+      cl.by _ _ (V4 before.edge m cb.there cb.from refl is (by_method m is)) (cb.views.each before.component cb.component, has)
 
-  pub end_ok : own < slot_count x → MeetsPolicy x own set → (at : Callback) (h : Heap) → IsEnded x own set at h → IsIdle x own set at.states h × ExitsWell x own at h
-  end_ok lt mp at h d =
+  -- and what each component may be in
+  pub end_views : IsClosed (Between x (Carries x own)) set → (at : Callback) (h : Heap) → IsEnded x own set at h → AreViews x set at.states (status h own)
+  end_views cl at h d =
+      let before = d.before in
       let cb = d.callback in
-      let views = end_views d.before d.edge d.root d.s0 (status h own) cb d.ret in
-      let own_view = cb.views.each d.before.component cb.component in
-      let exit : ExitsWell x own d.before h = λ other is yes_exit answers.
-      (let there = cb.there in
-      let alike : d.edge ≡ other = cc in
-      let yes_exit' : in_mask (exits_at x.list d.before.component) d.edge.callback ≡ true = subst (λ (y : Edge). in_mask (exits_at x.list d.before.component) y.callback ≡ true) (sym alike) yes_exit in
+      let states = set_at before.states before.component d.edge.to in
+      let within : before.component < length before.states = omega (arith, cb.views.count, cb.component) in
+      let own_view = cb.views.each before.component cb.component in
+      rw d.states (record {
+        count = length-set before.states before.component d.edge.to ∙ cb.views.count;
+        each = λ c lt.
+            ⊎_elim
+            (λ same.
+            (let to : slice_index states c ≡ d.edge.to = ap (slice_index states) same ∙ get_or-set_same before.states before.component d.edge.to 0 within in
+            rw (to, same) (moved_view cl before d.edge d.s0 (status h own) d.needs cb d.carried d.has)))
+            (λ other.
+            (let stays : slice_index states c ≡ slice_index before.states c = get_or-set_other before.states before.component c d.edge.to 0 other in
+            rw stays (cl.by _ _ (V5 before.edge (λ same. other (sym same)) cb.there cb.from d.carried) (cb.views.each c lt, (own_view, d.has)))))
+            (cases_eq c before.component);
+      })
+
+  -- an exit at a held status would be a violation
+  pub exits_well : own < slot_count x → MeetsPolicy x own set → (at : Callback) (h : Heap) → IsEnded x own set at h → ExitsWell x own at h
+  exits_well lt mp at h d other is yes_exit answers =
+      let before = d.before in
+      let cb = d.callback in
+      let here : edge_at x.list before.component before.edge ≡ Some other = subst₂ (λ c e. edge_at x.list c e ≡ Some other) (sym d.same_component) (sym d.same_edge) is in
+      let exit : in_mask (exits_at x.list before.component) other.callback ≡ true = subst (λ c. in_mask (exits_at x.list c) other.callback ≡ true) (sym d.same_component) yes_exit in
+      let there = cb.there in
+      let alike : other ≡ d.edge = cc in
       false_from_ne_true (is_held (status h own)) (λ bad.
-      mp d.before.component d.edge.callback (status h own)
+      mp before.component d.edge.callback (status h own)
       (record {
-        state = slice_index d.before.states d.before.component;
+        state = slice_index before.states before.component;
         before = d.s0;
-        number = d.before.edge;
+        number = before.edge;
         edge = d.edge;
-        needs = Ret d.root (entered x own d.before.component d.edge d.s0) (status h own) ∷ [];
+        needs = d.needs;
         slot = lt;
         there = there;
         from = cb.from;
         callback = refl;
-        carried = by_method d.root cb.method;
-        holds = (own_view, (d.ret, tt));
-        exit = yes_exit';
+        carried = d.carried;
+        holds = (cb.views.each before.component cb.component, d.has);
+        exit = subst (λ (y : Edge). in_mask (exits_at x.list before.component) y.callback ≡ true) alike exit;
         held = bad;
-        answers = answers;
-      }))) in (
-        record { views = subst (λ states. AreViews x set states (status h own)) (sym d.states) views; heap = d.heap },
-        λ other is yes_exit answers. exit other (subst₂ (λ c e. edge_at x.list c e ≡ Some other) (sym d.same_component) (sym d.same_edge) is) (subst (λ c. in_mask (exits_at x.list c) other.callback ≡ true) (sym d.same_component) yes_exit) (subst (λ c. answers_at x c own ≡ true) (sym d.same_component) answers),
-      )
+        answers = subst (λ c. answers_at x c own ≡ true) (sym d.same_component) answers;
+      }))

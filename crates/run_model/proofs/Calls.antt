@@ -27,8 +27,7 @@ use Rattle.flow_model.specs.Passes.{has_receiver, is_instance, is_lock_call, pas
 use Rattle.flow_model.specs.Scope.{call_escapes, escapes_as_receiver, is_escape, may_be_lock, passes_lock}
 use Rattle.app_model.specs.Subject.{SubjectParts, slot_count}
 use Rattle.run_model.specs.Heaps.{Value, Zero, Nonzero, Object, LockRef, Heap, Lock, cell, is_owned, lock_at, new_lock, status, with_new}
-use Rattle.run_model.specs.Types.{may_receive}
-use Rattle.run_model.specs.Machine.{Frame, Over, Stuck, Escape, register, is_lock_in, gives_lock, receiver_in, lacks_argument, answers, answers_of, throws_from, lock_call_options, full_lock_call_options, operation_options, answer_options, object_options, outside_answers, outside_options, receiver_options, call_options}
+use Rattle.run_model.specs.Machine.{Frame, Over, Stuck, Escape, register, is_lock_in, gives_lock, receiver_in, lacks_argument, answers, answers_of, throws_from, lock_call_options, full_lock_call_options, operation_options, answer_options, object_options, outside_answers, outside_options, receiver_options, call_options, may_receive}
 use Rattle.run_model.specs.Relation.{AreTagged, Each, IsHeap, IsInside, IsNew, Means}
 use Rattle.flow_model.proofs.TestLaws.{some_below, below_some}
 use Rattle.run_model.proofs.Members.{each_append, each_if, each_map}

@@ -10,11 +10,11 @@ use Rattle.app_model.specs.declared.rows.Operand.{Operand}
 use Rattle.app_model.specs.declared.rows.Operand.TheVariants as operand
 use Rattle.dalvik.specs.declared.opcode.TheConstants.{INVOKE_VIRTUAL, MOVE_RESULT_OBJECT, SPUT_OBJECT}
 use Rattle.app_model.specs.Components.{callback_at, edge_at}
+use Rattle.app_model.specs.Hierarchy.{above_type, class_of_type, has_unknown_above, is_sub, line_of, lock_in, lock_of, may_be_sub, superclass_at}
 use Rattle.app_model.specs.LockUse.{lock_use_at}
 use Rattle.app_model.specs.Names.{is_proto, name_text, result_text, type_text}
 use Rattle.app_model.specs.Parts.{AppParts}
 use Rattle.app_model.specs.Slots.{slot_at}
-use Rattle.app_model.specs.Hierarchy.{class_of_type, line_of, lock_in, lock_of, superclass_at}
 use Rattle.app_model.specs.Words.{operand_at, place_at, places_of}
 use Rattle.act_model.specs.Acts.{act_at}
 use Rattle.app_model.specs.Subject.{SubjectParts, owner_at, slot_count}
@@ -79,20 +79,20 @@ end_status (Over Escape) = 104
 -- the callback's argument is an object of type 1, the power manager's; each instruction takes its first option: at the end
 -- the count is one
 ends_held : end_status (run_of leaking (2 ∷ 0 ∷ 0 ∷ 0 ∷ 0 ∷ 0 ∷ [])) ≡ 2
-unfolding status is_lost is_lost_lock is_held_lock lock_at cell act_at type_text name_text place_at places_of operand_at lock_use_at slot_at lock_in lock_of line_of class_of_type superclass_at is_proto result_text callback_at edge_at owner_at slot_count
+unfolding status is_lost is_lost_lock is_held_lock lock_at cell act_at type_text name_text place_at places_of operand_at lock_use_at slot_at lock_in lock_of line_of class_of_type superclass_at may_be_sub is_sub above_type has_unknown_above is_proto result_text callback_at edge_at owner_at slot_count
 ends_held = refl
 
 -- with the release the count is zero
 ends_free : end_status (run_of working (2 ∷ 0 ∷ 0 ∷ 0 ∷ 0 ∷ 0 ∷ 0 ∷ [])) ≡ 1
-unfolding status is_lost is_lost_lock is_held_lock lock_at cell act_at type_text name_text place_at places_of operand_at lock_use_at slot_at lock_in lock_of line_of class_of_type superclass_at is_proto result_text callback_at edge_at owner_at slot_count
+unfolding status is_lost is_lost_lock is_held_lock lock_at cell act_at type_text name_text place_at places_of operand_at lock_use_at slot_at lock_in lock_of line_of class_of_type superclass_at may_be_sub is_sub above_type has_unknown_above is_proto result_text callback_at edge_at owner_at slot_count
 ends_free = refl
 
 -- newWakeLock throws in place of that
 ends_uncaught : end_status (run_of leaking (2 ∷ 1 ∷ [])) ≡ 102
-unfolding status is_lost is_lost_lock is_held_lock lock_at cell act_at type_text name_text place_at places_of operand_at lock_use_at slot_at lock_in lock_of line_of class_of_type superclass_at is_proto result_text callback_at edge_at owner_at slot_count
+unfolding status is_lost is_lost_lock is_held_lock lock_at cell act_at type_text name_text place_at places_of operand_at lock_use_at slot_at lock_in lock_of line_of class_of_type superclass_at may_be_sub is_sub above_type has_unknown_above is_proto result_text callback_at edge_at owner_at slot_count
 ends_uncaught = refl
 
 -- a second callback, in which the field gets another new lock: the first one is lost
 loses_lock : end_status (run_of leaking (2 ∷ 0 ∷ 0 ∷ 0 ∷ 0 ∷ 0 ∷ 0 ∷ 2 ∷ 0 ∷ 0 ∷ 0 ∷ 0 ∷ 0 ∷ [])) ≡ 7
-unfolding status is_lost is_lost_lock is_held_lock lock_at cell act_at type_text name_text place_at places_of operand_at lock_use_at slot_at lock_in lock_of line_of class_of_type superclass_at is_proto result_text callback_at edge_at owner_at slot_count
+unfolding status is_lost is_lost_lock is_held_lock lock_at cell act_at type_text name_text place_at places_of operand_at lock_use_at slot_at lock_in lock_of line_of class_of_type superclass_at may_be_sub is_sub above_type has_unknown_above is_proto result_text callback_at edge_at owner_at slot_count
 loses_lock = refl

@@ -28,7 +28,7 @@ use Rattle.flow_model.specs.Status.{only}
 use Rattle.flow_model.specs.Passes.{if_passes, passes, passes_by, slot_passes, stored_passes, test_passes, throws, throws_by}
 use Rattle.flow_model.specs.Subject.{is_return}
 use Rattle.flow_model.proofs.MaskLaws.{IsIn-zero}
-use Rattle.flow_model.specs.Rules.{I1_return}
+use Rattle.flow_model.specs.Rules.{I1_return, by_method}
 use Rattle.flow_model.specs.Scope.{is_escape, may_be_lock, may_be_stored}
 use Rattle.app_model.specs.Subject.{SubjectParts, slot_count}
 use Rattle.run_model.specs.Heaps.{Value, Zero, Nonzero, Object, LockRef, Heap, Lock, cell, cell_value, counter_at, is_lock, is_lost, is_null, is_owned, lock_at, status, with_null, with_stored}
@@ -41,6 +41,7 @@ use Rattle.run_model.proofs.Meanings.{KeepsBut, only_at, held_same, means_null, 
 use Rattle.run_model.proofs.Registers.{tagged_map, tagged_put, tagged_read, tagged_retag, tagged_set}
 use Rattle.run_model.proofs.Entries.{written_ok}
 use Rattle.run_model.proofs.Masks.{fails_zero, in_if, passes_full, test_ok}
+use Rattle.run_model.proofs.Slots.{stored_below}
 use Rattle.run_model.proofs.Calls.{call_ok, given_by_tag}
 use Rattle.run_model.proofs.Steps.{Premises, Top, goes_ok, only_status, out_of, quiet_ok, row_of, start_status, throws_ok}
 
@@ -219,7 +220,7 @@ module _ (x : SubjectParts) (own : ℕ) (set_of : Set) (p : Premises x own set_o
     -- of null to lock field l
     module _ (from : ℕ) (l : LockNo) (when : Throws) (is : act_at x.app f.method f.index ≡ Some (WriteSlot from l when)) (passed : in_mask (passes_by own when row now) now ≡ true) where
       in_range : l.0 < number
-      in_range = p.tagged.slots f.method f.index from l when t.entered is
+      in_range = stored_below x f.method f.index from l when is
 
       may_store : may_be_stored (tag_in row from) ≡ true
       may_store = if_stored (may_be_stored (tag_in row from)) (subst (λ (o : Option Act). is_escape o row ≡ false) is (p.tagged.no_escape f.method f.index t.entered))
@@ -327,14 +328,15 @@ module _ (x : SubjectParts) (own : ℕ) (set_of : Set) (p : Premises x own set_o
         rw p.callback.there (record {
           before = p.at;
           edge = p.edge;
-          root = p.root;
           s0 = p.s0;
+          needs = Ret p.root (start_status x own set_of p) (status h own) ∷ [];
           callback = p.callback;
           same_component = refl;
           same_edge = refl;
           states = refl;
           heap = ok;
-          ret = subst₂ (λ m e. set_of (Ret m e (status h own)) ≡ true) b.0 b.1 ret;
+          carried = by_method p.root p.method;
+          has = (subst₂ (λ m e. set_of (Ret m e (status h own)) ≡ true) b.0 b.1 ret, tt);
         })
     returns_ok answer is v (g ∷ frames) b = absurd (b.2.call)
 

@@ -5,6 +5,7 @@ pub mod Meanings
 pub mod Registers
 pub mod Entries
 pub mod Callbacks
+pub mod Slots
 pub mod Steps
 pub mod Masks
 pub mod LockCalls

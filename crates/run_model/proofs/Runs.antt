@@ -15,7 +15,7 @@ use Rattle.run_model.specs.Tagged.{IsTagged}
 use Rattle.run_model.proofs.Heaps.{held_exactly}
 use Rattle.std.proofs.lemmas.Bool.{false≢true}
 use Rattle.run_model.proofs.Members.{each_get, each_weaker}
-use Rattle.run_model.proofs.Callbacks.{end_ok, idle_ok}
+use Rattle.run_model.proofs.Callbacks.{end_views, exits_well, idle_ok}
 use Rattle.run_model.proofs.Instructions.{act_ok}
 
 -- ---- the heap at the start
@@ -49,10 +49,10 @@ starts_law x l set tg cl states h idle = idle_ok x l set tg cl states h idle
 pub steps_law : (x : SubjectParts) (l : ℕ) (set : Set) → IsTagged x → IsClosed (Inner x l (status_masks x l)) set → (at : Callback) (h : Heap) (frames : List Frame) → IsInside x l set (Running at h frames) → Each (IsInside x l set) (options_of x (Running at h frames))
 steps_law x l set tg cl at h [] ok = absurd ok.stack
 steps_law x l set tg cl at h (f ∷ rest) ok =
-    act_ok x l set (record { tagged = tg; closed = cl; at = at; edge = ok.edge; root = ok.root; s0 = ok.s0; callback = ok.callback }) h ok.heap f rest ok.stack (act_at x.app f.method f.index) refl
+    act_ok x l set (record { tagged = tg; closed = cl; at = at; edge = ok.edge; root = ok.root; s0 = ok.s0; callback = ok.callback; method = ok.method }) h ok.heap f rest ok.stack (act_at x.app f.method f.index) refl
 
 -- ---- all rules
-module _ (x : SubjectParts) (l : ℕ) (set : Set) (tg : IsTagged x) (lt : l < slot_count x) (cl : IsClosed (Rules x l) set) (mp : MeetsPolicy x l set) where
+module _ (x : SubjectParts) (l : ℕ) (set : Set) (tg : IsTagged x) (cl : IsClosed (Rules x l) set) where
   inner : IsClosed (Inner x l (status_masks x l)) set
   inner = record { by = λ needs f r has. cl.by needs f (inl r) has }
 
@@ -62,13 +62,13 @@ module _ (x : SubjectParts) (l : ℕ) (set : Set) (tg : IsTagged x) (lt : l < sl
   inside_sound : (s : State) → IsInside x l set s → IsSound x l set s
   inside_sound (Idle states h) ok = absurd ok
   inside_sound (Running at h frames) ok = ok
-  inside_sound (AtEnd at h) ok = end_ok x l set tg outer lt mp at h ok
+  inside_sound (AtEnd at h) ok = (ok, end_views x l set outer at h ok)
   inside_sound (Over why) ok = ok
 
   options_ok : (s : State) → IsSound x l set s → Each (IsSound x l set) (options_of x s)
   options_ok (Idle states h) ok = each_weaker (IsInside x l set) (IsSound x l set) inside_sound _ (starts_law x l set tg inner states h ok)
   options_ok (Running at h frames) ok = each_weaker (IsInside x l set) (IsSound x l set) inside_sound _ (steps_law x l set tg inner at h frames ok)
-  options_ok (AtEnd at h) ok = (ok.0, tt)
+  options_ok (AtEnd at h) ok = (record { views = ok.1; heap = ok.0.heap }, tt)
   options_ok (Over why) ok = (ok, tt)
 
   step_ok : (k : ℕ) (s : State) → IsSound x l set s → IsSound x l set (step x k s)
@@ -87,20 +87,25 @@ module _ (x : SubjectParts) (l : ℕ) (set : Set) (tg : IsTagged x) (lt : l < sl
     heap = empty_heap (slot_count x);
   }
 
+  pub relation_law : (choices : List ℕ) → IsSound x l set (run_of x choices)
+  relation_law choices = run_ok choices (start_of x) start_ok
+
+-- ---- the policy beside that
+module _ (x : SubjectParts) (l : ℕ) (set : Set) (tg : IsTagged x) (lt : l < slot_count x) (cl : IsClosed (Rules x l) set) (mp : MeetsPolicy x l set) where
   stands : (s : State) → IsSound x l set s → StandsWell x l s
   stands (Idle states h) ok = tt
   stands (Running at h frames) ok = tt
-  stands (AtEnd at h) ok = ok.1
+  stands (AtEnd at h) ok = exits_well x l set lt mp at h ok.0
   stands (Over why) ok = ok
 
   pub runs_law : (choices : List ℕ) → StandsWell x l (run_of x choices)
-  runs_law choices = stands _ (run_ok choices (start_of x) start_ok)
+  runs_law choices = stands _ (relation_law x l set tg cl choices)
 
   leaves : (s : State) → IsSound x l set s → LeavesNoneHeld x l s
   leaves (Idle states h) ok = tt
   leaves (Running at h frames) ok = tt
-  leaves (AtEnd at h) ok = λ edge there exit answers holds. false≢true (sym (ok.1 edge there exit answers) ∙ (held_exactly h l (slot_count x) ok.0.heap).1 holds)
+  leaves (AtEnd at h) ok = λ edge there exit answers holds. false≢true (sym (exits_well x l set lt mp at h ok.0 edge there exit answers) ∙ (held_exactly h l (slot_count x) ok.0.heap).1 holds)
   leaves (Over why) ok = tt
 
   pub counts_law : (choices : List ℕ) → LeavesNoneHeld x l (run_of x choices)
-  counts_law choices = leaves _ (run_ok choices (start_of x) start_ok)
+  counts_law choices = leaves _ (relation_law x l set tg cl choices)

@@ -4,6 +4,7 @@ use Rattle.std.proofs.lemmas.Bool.{cases_Bool}
 use Rattle.dalvik.specs.declared.body.Place.{Place}
 use Rattle.app_model.specs.declared.component.Edge.{Edge}
 use Rattle.app_model.specs.declared.tag.Tag.{Tag}
+use Rattle.app_model.specs.Components.{callback_at}
 use Rattle.app_model.specs.Words.{place_at, successor_at, handler_at, handler_of, leaves_at}
 use Rattle.act_model.specs.declared.act.Act.{Act}
 use Rattle.act_model.specs.declared.act.Act.TheVariants.{Go, Test, Copy, TakeResult, Write, Fill, ReadSlot, WriteSlot, Give, Check, Throw, Return, Call}
@@ -41,7 +42,8 @@ pub record Premises (x : SubjectParts) (own : ℕ) (set : Set) : Type 0 where
   pub edge : Edge
   pub root : ℕ
   pub s0 : ℕ
-  pub callback : IsCallback x set at edge root s0
+  pub callback : IsCallback x set at edge s0
+  pub method : callback_at x.list at.component edge.callback ≡ Some root
 
 -- no frame waits yet
 pub below_kept : (x : SubjectParts) (set : Set) (root s0 : ℕ) (h h' : Heap) (frames : List Frame) (n es hi : ℕ) → Below x set root s0 h frames n es hi → Below x set root s0 h' frames n es hi
@@ -123,6 +125,7 @@ module _ (x : SubjectParts) (own : ℕ) (set : Set) (p : Premises x own set) whe
         root = p.root;
         s0 = p.s0;
         callback = p.callback;
+        method = p.method;
         heap = ok;
         stack = record {
           e = t.e;
@@ -152,6 +155,7 @@ module _ (x : SubjectParts) (own : ℕ) (set : Set) (p : Premises x own set) whe
         root = p.root;
         s0 = p.s0;
         callback = p.callback;
+        method = p.method;
         heap = ok;
         stack = record {
           e = t.e;

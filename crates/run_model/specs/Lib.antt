@@ -1,6 +1,5 @@
 pub mod Heaps
 pub mod States
-pub mod Types
 pub mod Machine
 pub mod Tagged
 pub mod Relation

@@ -2,7 +2,7 @@
 --
 -- A call of a method that the application declares goes outside as every other call does: no instruction enters a
 -- method of the application yet.
-use Rattle.std.specs.Prelude.{ℕ, zero, suc, pred, ◌+◌, ◌%◌, Bool, true, false, not, ◌&&◌, ◌==◌, nat_le, if◌then◌else◌, List, [], ◌∷◌, ◌++◌, map, length, replicate, Option, Some, None, slice_get, slice_index, slice_index_or, slice_set, flat_map, position, bytes_eq, codes}
+use Rattle.std.specs.Prelude.{ℕ, zero, suc, pred, ◌+◌, ◌%◌, Bool, true, false, not, ◌&&◌, ◌||◌, ◌==◌, nat_le, if◌then◌else◌, List, [], ◌∷◌, ◌++◌, map, length, replicate, Option, Some, None, slice_get, slice_index, slice_index_or, slice_set, flat_map, position, bytes_eq, codes}
 use Rattle.std.specs.List.{range_with_len}
 use Rattle.ns_base.specs.declared.rows.LockNo.{LockNo}
 use Rattle.ns_base.specs.declared.rows.TypeNo.{TypeNo}
@@ -12,8 +12,10 @@ use Rattle.dalvik.specs.Calls.{args_len, arg_at, receiver_of, argument_of}
 use Rattle.dalvik.specs.Descriptors.{is_reference, words_of}
 use Rattle.app_model.specs.declared.component.Edge.{Edge}
 use Rattle.app_model.specs.declared.rows.MethodRow.{MethodRow}
+use Rattle.app_model.specs.declared.rows.Named.{Named}
 use Rattle.app_model.specs.declared.lock_use.LockUse.{LockUse}
 use Rattle.app_model.specs.declared.lock_use.LockUse.TheVariants.{Plain, Make, Acquire, Release, IsHeld, Mode, Wrong}
+use Rattle.app_model.specs.Hierarchy.{may_be_sub}
 use Rattle.app_model.specs.Components.{ComponentParts, edges_of, edge_at, callback_at}
 use Rattle.app_model.specs.Masks.{any_below}
 use Rattle.app_model.specs.Names.{type_text, string_name}
@@ -39,7 +41,6 @@ use Rattle.act_model.specs.Entries.{entry_row}
 use Rattle.flow_model.specs.Passes.{is_lock_call}
 use Rattle.flow_model.specs.Rules.{clears}
 use Rattle.run_model.specs.Heaps.{Value, Zero, Nonzero, Object, LockRef, Heap, cell, cell_value, held_value, is_lock, is_null, is_owned, lock_at, with_new, with_count, with_mode, with_stored, with_null, with_cleared}
-use Rattle.run_model.specs.Types.{may_receive}
 
 -- ---- states
 -- a method that runs: the values of its registers, and of the result cell as the last one
@@ -285,6 +286,11 @@ answer_options x at h f rest Acquire given = []
 answer_options x at h f rest Release given = []
 answer_options x at h f rest IsHeld given = []
 answer_options x at h f rest Mode given = []
+
+-- an object of that type may be the receiver of a call of the named method; an array's methods take every object
+abbrev pub may_receive : AppParts → Option ℕ → Option Named → Bool
+may_receive app t None = false
+may_receive app t (Some named) = slice_index (type_text app named.class.0) 0 == 91 || may_be_sub app t named.class.0
 
 abbrev pub outside_answers : SubjectParts → Callback → Heap → Frame → List Frame → LockUse → Gives → List State
 outside_answers x at h f rest usage given = answer_options x at h f rest usage given ++ throws_from x at h (f ∷ rest)

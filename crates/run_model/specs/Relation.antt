@@ -3,15 +3,14 @@ use Rattle.std.specs.Prelude.{◌≡◌, ℕ, ◌<◌, ◌≤◌, true, false, L
 use Rattle.app_model.specs.declared.component.Edge.{Edge}
 use Rattle.app_model.specs.declared.tag.Tag.{Tag}
 use Rattle.app_model.specs.declared.tag.Tag.TheVariants as tag
-use Rattle.app_model.specs.Components.{edge_at, callback_at, exits_at}
+use Rattle.app_model.specs.Components.{edge_at, callback_at}
 use Rattle.act_model.specs.declared.act.Act.{Act}
 use Rattle.act_model.specs.Acts.{act_at}
 use Rattle.act_model.specs.Changes.{tag_in, thrown}
-use Rattle.flow_model.specs.Derived.{Set}
-use Rattle.app_model.specs.Facts.{View, At, Ret}
-use Rattle.app_model.specs.Masks.{in_mask, is_held}
-use Rattle.flow_model.specs.Rules.{entered}
-use Rattle.app_model.specs.Subject.{SubjectParts, answers_at, row_at, slot_count}
+use Rattle.flow_model.specs.Derived.{Set, HasAll}
+use Rattle.app_model.specs.Facts.{Fact, View, At}
+use Rattle.flow_model.specs.Rules.{Carries, entered}
+use Rattle.app_model.specs.Subject.{SubjectParts, row_at, slot_count}
 use Rattle.run_model.specs.Heaps.{Value, Zero, Nonzero, Object, LockRef, Heap, cell, cell_value, held_value, is_lock, lock_at, status}
 use Rattle.run_model.specs.Machine.{Callback, Frame, State, Idle, Running, AtEnd, Over, Reason, Uncaught, Stuck, Escape}
 use Rattle.run_model.specs.Tagged.{IsEntered}
@@ -108,34 +107,35 @@ pub record AreViews (x : SubjectParts) (set : Set) (states : List ℕ) (s : ℕ)
   pub count : length states ≡ length x.list
   pub each : (c : ℕ) → c < length x.list → set (View c (slice_index states c) s) ≡ true
 
--- what stays as it was while a callback runs, which began at status s0, before its edge's clearing, by method root
-pub record IsCallback (x : SubjectParts) (set : Set) (at : Callback) (edge : Edge) (root s0 : ℕ) : Type 0 where
+-- what stays as it was since a callback began, at status s0, before its edge's clearing
+pub record IsCallback (x : SubjectParts) (set : Set) (at : Callback) (edge : Edge) (s0 : ℕ) : Type 0 where
   pub views : AreViews x set at.states s0
   pub component : at.component < length x.list
   pub there : edge_at x.list at.component at.edge ≡ Some edge
   pub from : edge.from ≡ slice_index at.states at.component
-  pub method : callback_at x.list at.component edge.callback ≡ Some root
 
 pub record IsRunning (x : SubjectParts) (l : ℕ) (set : Set) (at : Callback) (h : Heap) (frames : List Frame) : Type 0 where
   pub edge : Edge
   pub root : ℕ
   pub s0 : ℕ
-  pub callback : IsCallback x set at edge root s0
+  pub callback : IsCallback x set at edge s0
+  pub method : callback_at x.list at.component edge.callback ≡ Some root
   pub heap : IsHeap (slot_count x) h
   pub stack : IsStack x l set root (entered x l at.component edge s0) h frames
 
--- a callback that has just returned
+-- a callback that has just ended: its edge carries the status at which it began to the one now, by facts of the set
 pub record IsEnded (x : SubjectParts) (l : ℕ) (set : Set) (at : Callback) (h : Heap) : Type 0 where
   pub before : Callback
   pub edge : Edge
-  pub root : ℕ
   pub s0 : ℕ
-  pub callback : IsCallback x set before edge root s0
+  pub needs : List Fact
+  pub callback : IsCallback x set before edge s0
   pub same_component : before.component ≡ at.component
   pub same_edge : before.edge ≡ at.edge
   pub states : at.states ≡ slice_set before.states before.component edge.to
   pub heap : IsHeap (slot_count x) h
-  pub ret : set (Ret root (entered x l before.component edge s0) (status h l)) ≡ true
+  pub carried : Carries x l before.component edge s0 (status h l) needs
+  pub has : HasAll set needs
 
 -- a run is never over since a lock went where it is not followed
 abbrev pub NoEscape : Reason → Type 0
@@ -155,15 +155,9 @@ pub record IsIdle (x : SubjectParts) (l : ℕ) (set : Set) (states : List ℕ) (
   pub views : AreViews x set states (status h l)
   pub heap : IsHeap (slot_count x) h
 
--- at an exit of a component that answers for l, no lock of l is held
-abbrev pub ExitsWell : SubjectParts → ℕ → Callback → Heap → Type 0
-ExitsWell x l at h =
-    (edge : Edge) → edge_at x.list at.component at.edge ≡ Some edge → in_mask (exits_at x.list at.component) edge.callback ≡ true
-    → answers_at x at.component l ≡ true → is_held (status h l) ≡ false
-
 -- the relation
 abbrev pub IsSound : SubjectParts → ℕ → Set → State → Type 0
 IsSound x l set (Idle states h) = IsIdle x l set states h
 IsSound x l set (Running at h frames) = IsRunning x l set at h frames
-IsSound x l set (AtEnd at h) = IsIdle x l set at.states h × ExitsWell x l at h
+IsSound x l set (AtEnd at h) = IsEnded x l set at h × AreViews x set at.states (status h l)
 IsSound x l set (Over why) = NoEscape why

@@ -1,12 +1,18 @@
 -- What the theorem says of the state in which a run stands.
-use Rattle.std.specs.Prelude.{ℕ, ◌≡◌, ◌<◌, true, Some}
+use Rattle.std.specs.Prelude.{ℕ, ◌≡◌, ◌<◌, true, false, Some}
 use Rattle.app_model.specs.declared.component.Edge.{Edge}
 use Rattle.app_model.specs.Components.{edge_at, exits_at}
-use Rattle.app_model.specs.Masks.{in_mask}
+use Rattle.app_model.specs.Masks.{in_mask, is_held}
 use Rattle.app_model.specs.Subject.{SubjectParts, answers_at}
-use Rattle.run_model.specs.Heaps.{Heap, lock_at}
-use Rattle.run_model.specs.Machine.{State, Idle, Running, AtEnd, Over}
-use Rattle.run_model.specs.Relation.{ExitsWell, NoEscape}
+use Rattle.run_model.specs.Heaps.{Heap, lock_at, status}
+use Rattle.run_model.specs.Machine.{Callback, State, Idle, Running, AtEnd, Over}
+use Rattle.run_model.specs.Relation.{NoEscape}
+
+-- at an exit of a component that answers for l, no lock of l is held
+abbrev pub ExitsWell : SubjectParts → ℕ → Callback → Heap → Type 0
+ExitsWell x l at h =
+    (edge : Edge) → edge_at x.list at.component at.edge ≡ Some edge → in_mask (exits_at x.list at.component) edge.callback ≡ true
+    → answers_at x at.component l ≡ true → is_held (status h l) ≡ false
 
 -- the machine stands at no exit of a component that answers for l with a held status of l, and no lock has escaped
 abbrev pub StandsWell : SubjectParts → ℕ → State → Type 0

@@ -1,20 +1,17 @@
--- What the theorem asks of a subject: tags that follow the code, no use of a lock that the tags can't follow, and a
--- component list and calls of the form that the rules speak of so far.
-use Rattle.std.specs.Prelude.{ℕ, ◌≡◌, ◌≤◌, ◌<◌, true, false, List, length, Some, slice_get}
-use Rattle.ns_base.specs.declared.rows.LockNo.{LockNo}
+-- What the theorem asks of a subject: tags that follow the code, no use of a lock that the tags can't follow, and calls
+-- that all lead outside.
+use Rattle.std.specs.Prelude.{ℕ, ◌≡◌, ◌<◌, true, false, List, length, Some, slice_get}
 use Rattle.dalvik.specs.declared.ins.Args.{Args}
-use Rattle.app_model.specs.declared.component.Edge.{Edge}
 use Rattle.app_model.specs.declared.lock_use.LockUse.{LockUse}
 use Rattle.app_model.specs.declared.tag.Tag.{Tag}
-use Rattle.app_model.specs.Components.{edge_at, callback_at}
+use Rattle.app_model.specs.Components.{callback_at}
 use Rattle.app_model.specs.Sites.{site_at}
-use Rattle.app_model.specs.Subject.{SubjectParts, outside_at, row_at, slot_count}
+use Rattle.app_model.specs.Subject.{SubjectParts, outside_at, row_at}
 use Rattle.app_model.specs.Words.{successor_at, handler_at}
 use Rattle.act_model.specs.declared.act.Act.{Act}
-use Rattle.act_model.specs.declared.act.Act.TheVariants.{WriteSlot, Call}
+use Rattle.act_model.specs.declared.act.Act.TheVariants.{Call}
 use Rattle.act_model.specs.declared.act.By.{By}
 use Rattle.act_model.specs.declared.act.Gives.{Gives}
-use Rattle.act_model.specs.declared.act.Throws.{Throws}
 use Rattle.act_model.specs.Acts.{act_at}
 use Rattle.act_model.specs.Changes.{tag_in, after, thrown}
 use Rattle.act_model.specs.Entries.{callback_row}
@@ -41,9 +38,5 @@ pub record IsTagged (x : SubjectParts) : Type 0 where
   -- no lock goes where it is not followed
   pub no_escape : (m i : ℕ) → IsEntered x m → is_escape (act_at x.app m i) (row_at x m i) ≡ false
   pub no_wrong_call : (m i : ℕ) → IsEntered x m → is_wrong_call (act_at x.app m i) (row_at x m i) ≡ false
-  pub slots : (m i from : ℕ) (l : LockNo) (when : Throws) → IsEntered x m → act_at x.app m i ≡ Some (WriteSlot from l when) → l.0 < slot_count x
   -- every call leads outside: the machine enters no method of the application from another one yet
   pub outside : (m i : ℕ) (by : By) (usage : LockUse) (arguments : Args) (gives : Gives) → IsEntered x m → act_at x.app m i ≡ Some (Call by usage arguments gives) → outside_at x m i ≡ true
-  -- there is no proof yet for two components, nor for a callback that the application does not have
-  pub alone : length x.list ≤ 1
-  pub has_callbacks : (c e : ℕ) (edge : Edge) → edge_at x.list c e ≡ Some edge → (m : ℕ) × (callback_at x.list c edge.callback ≡ Some m)

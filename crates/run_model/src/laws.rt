@@ -8,14 +8,16 @@ ghost use Rattle.flow_model.specs.Subject.{status_masks};
 ghost use Rattle.app_model.specs.Subject.{SubjectParts, slot_count};
 ghost use Rattle.run_model.specs.Heaps.{Heap, status};
 ghost use Rattle.run_model.specs.Machine.{Callback, Frame, Idle, Running, options_of, run_of};
-ghost use Rattle.run_model.specs.Relation.{Each, IsHeap, IsIdle, IsInside};
+ghost use Rattle.run_model.specs.Relation.{Each, IsHeap, IsIdle, IsInside, IsSound};
 ghost use Rattle.run_model.specs.Soundness.{HoldsLock, LeavesNoneHeld, StandsWell};
 ghost use Rattle.run_model.specs.Tagged.{IsTagged};
 
-/// Soundness: what a closed set of facts that meets the policy says of every run.
+/// Soundness: what a closed set of facts that meets the policy says of every run. The relation between the set and the
+/// state in which a run stands needs no policy.
 pub fn soundness()
     ensures runs { (x : SubjectParts) (l : ℕ) (set : Set) → IsTagged x → l < slot_count x → IsClosed (Rules x l) set → MeetsPolicy x l set → (choices : List ℕ) → StandsWell x l (run_of x choices) }
     ensures counts { (x : SubjectParts) (l : ℕ) (set : Set) → IsTagged x → l < slot_count x → IsClosed (Rules x l) set → MeetsPolicy x l set → (choices : List ℕ) → LeavesNoneHeld x l (run_of x choices) }
+    ensures relation { (x : SubjectParts) (l : ℕ) (set : Set) → IsTagged x → IsClosed (Rules x l) set → (choices : List ℕ) → IsSound x l set (run_of x choices) }
 {}
 
 /// The part of it that needs the rules inside callbacks alone: the start of a callback, and each step inside it.

@@ -1,8 +1,8 @@
 //! The modelled Android as a machine, and what the flow rules say of each of its runs.
 //!
-//! The machine stands in `specs/`: `Heaps` has its values and wake locks, `Types` which object can be a receiver,
-//! `Machine` the states, the options of a state, and runs. `Tagged` is what the theorem asks of a subject,
-//! `Relation` what each step keeps, `Soundness` what the theorem says.
+//! The machine stands in `specs/`: `Heaps` has its values and wake locks, `Machine` the states, the options of a state,
+//! and runs. `Tagged` is what the theorem asks of a subject, `Relation` what each step keeps, `Soundness` what the theorem
+//! says.
 #![tactic(auto)]
 
 mod laws;

@@ -1,10 +1,10 @@
 -- Threads in an application of one class.
-use Rattle.std.proofs.Common.{◌≡◌, ◌⊎◌, ◌<◌, ℕ, zero, suc, true, List, [], ◌∷◌, Contains, Some, refl, sym, ◌∙◌, subst, inl, inr, ⊎_elim, arith}
+use Rattle.std.proofs.Common.{◌≡◌, ◌⊎◌, ◌<◌, ℕ, zero, suc, true, [], ◌∷◌, Contains, Some, refl, sym, ◌∙◌, ap, subst, inl, inr, ⊎_elim, arith}
 use Rattle.std.specs.Prelude.{slice_index_or}
 use Rattle.ns_base.specs.declared.rows.TypeNo.{TypeNo}
 use Rattle.app_model.specs.Parts.{AppParts, ClassParts}
 use Rattle.app_model.specs.Names.{type_text}
-use Rattle.app_model.specs.Subtypes.{IsSubtype, the_same, by_parent, by_interface}
+use Rattle.app_model.specs.Ancestors.{IsAncestor, IsParent, its_parent, further}
 use Rattle.straight_code.specs.Scope.{IsThread, is_thread_name}
 use Rattle.straight_code.specs.Verdict.{IsSmallApp}
 
@@ -19,40 +19,40 @@ none_in : {A : Type 0} (y : A) → Contains [] y → ⊥
 none_in y c = omega (arith, c.1)
 
 module _ (app : AppParts) (small : IsSmallApp app) where
-  abbrev own : List ℕ
-  own = type_text app small.class.name.0
+  abbrev own : ℕ
+  own = small.class.name.0
 
-  abbrev above : List ℕ
-  above = type_text app small.parent.0
+  abbrev above : ℕ
+  above = small.parent.0
 
   the_class : (class : ClassParts) → Contains app.classes class → small.class ≡ class
   the_class class c = only_one small.class class (subst (λ cs. Contains cs class) small.classes c)
 
-  the_parent : (class : ClassParts) (parent : TypeNo) → Contains app.classes class → class.parent ≡ Some parent → small.parent ≡ parent
-  the_parent class parent c p = inner (sym small.has_parent ∙ subst (λ (z : ClassParts). z.parent ≡ Some parent) (sym (the_class class c)) p)
+  its_name : (class : ClassParts) (t : ℕ) → Contains app.classes class → class.name.0 ≡ t → t ≡ own
+  its_name class t c is = sym is ∙ ap (λ (z : ClassParts). z.name.0) (sym (the_class class c))
+
+  the_parent : (class : ClassParts) (u : ℕ) → Contains app.classes class → IsParent class u → u ≡ above
+  the_parent class u c (inl p) = inner (sym small.has_parent ∙ subst (λ (z : ClassParts). z.parent ≡ Some (record { 0 = u })) (sym (the_class class c)) p)
     where
-      inner : Some small.parent ≡ Some parent → small.parent ≡ parent
-      inner e = cc
+      inner : Some small.parent ≡ Some (record { 0 = u }) → u ≡ above
+      inner e = let same : small.parent ≡ record { 0 = u } = cc in ap (λ (t : TypeNo). t.0) (sym same)
+  the_parent class u c (inr i) =
+      absurd (none_in (record { 0 = u }) (subst (λ is. Contains is (record { 0 = u })) (subst (λ (z : ClassParts). z.interfaces ≡ []) (the_class class c) small.interfaces) i))
 
-  supertypes : {a b : List ℕ} → IsSubtype app a b → (a ≡ b) ⊎ ((a ≡ own) × (b ≡ above))
-  supertypes the_same = inl refl
-  supertypes (by_parent {a = a} {b = b} class parent c name p sub) =
-      let mine : a ≡ own = sym name ∙ subst (λ (z : ClassParts). type_text app z.name.0 ≡ own) (the_class class c) refl in
-      let up : type_text app parent.0 ≡ above = subst (λ (z : TypeNo). type_text app z.0 ≡ above) (the_parent class parent c p) refl in
-      ⊎_elim (λ here. inr (mine, sym here ∙ up)) (λ further. absurd (small.other (sym up ∙ further.0))) (supertypes sub)
-  supertypes (by_interface class interface c name i sub) =
-      absurd (none_in interface (subst (λ is. Contains is interface) (subst (λ (z : ClassParts). z.interfaces ≡ []) (the_class class c) small.interfaces) i))
+  ancestors : {t u : ℕ} → IsAncestor app.classes t u → (t ≡ own) × (u ≡ above)
+  ancestors (its_parent {t = t} {u = u} class c is p) = (its_name class t c is, the_parent class u c p)
+  ancestors (further {u = u} class c is p rest) = absurd (small.other (ap (type_text app) (sym (the_parent class u c p) ∙ (ancestors rest).0)))
 
-  is_above : IsSubtype app own above
-  is_above = by_parent small.class small.parent (subst (λ cs. Contains cs small.class) (sym small.classes) (0, omega arith, refl)) refl small.has_parent the_same
+  is_above : IsAncestor app.classes own above
+  is_above = its_parent small.class (subst (λ cs. Contains cs small.class) (sym small.classes) (0, omega arith, refl)) refl (inl small.has_parent)
 
-  pub thread_here : (name : List ℕ) → is_thread_name name ≡ true → IsThread app name
-  thread_here name h = (name, h, the_same)
+  pub thread_here : (t : ℕ) → is_thread_name (type_text app t) ≡ true → IsThread app t
+  thread_here t h = (t, h, inl refl)
 
-  pub thread_above : (name : List ℕ) → name ≡ own → is_thread_name above ≡ true → IsThread app name
-  thread_above name eq h = (above, h, subst (λ n. IsSubtype app n above) (sym eq) is_above)
+  pub thread_above : (t : ℕ) → t ≡ own → is_thread_name (type_text app above) ≡ true → IsThread app t
+  thread_above t eq h = (above, h, inr (subst (λ n. IsAncestor app.classes n above) (sym eq) is_above))
 
-  pub thread_by : (name : List ℕ) → IsThread app name → (is_thread_name name ≡ true) ⊎ ((name ≡ own) × (is_thread_name above ≡ true))
-  thread_by name t =
-      ⊎_elim (λ here. inl (subst (λ n. is_thread_name n ≡ true) (sym here) t.1))
-      (λ up. inr (up.0, subst (λ n. is_thread_name n ≡ true) up.1 t.1)) (supertypes t.2)
+  pub thread_by : (t : ℕ) → IsThread app t → (is_thread_name (type_text app t) ≡ true) ⊎ ((t ≡ own) × (is_thread_name (type_text app above) ≡ true))
+  thread_by t thread = ⊎_elim
+      (λ here. inl (subst (λ n. is_thread_name (type_text app n) ≡ true) (sym here) thread.1))
+      (λ up. let both = ancestors up in inr (both.0, subst (λ n. is_thread_name (type_text app n) ≡ true) both.1 thread.1)) thread.2

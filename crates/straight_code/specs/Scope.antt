@@ -2,10 +2,10 @@
 use Rattle.std.specs.Prelude.{ℕ, ◌≡◌, ◌⊎◌, ◌<◌, Bool, true, false, List, [], ◌∷◌, bytes_eq, Option, Some, codes}
 use Rattle.std.specs.List.{list_any}
 use Rattle.app_model.specs.declared.rows.Named.{Named}
+use Rattle.app_model.specs.Ancestors.{IsAncestor}
 use Rattle.app_model.specs.Parts.{AppParts}
 use Rattle.app_model.specs.Words.{code_len, named_at}
 use Rattle.app_model.specs.Names.{type_text}
-use Rattle.app_model.specs.Subtypes.{IsSubtype}
 use Rattle.act_model.specs.declared.act.Act.{Act}
 use Rattle.act_model.specs.declared.act.Act.TheVariants.{Call}
 use Rattle.act_model.specs.Acts.{act_at}
@@ -23,15 +23,15 @@ thread_names =
 unfoldable pub is_thread_name : List ℕ → Bool
 is_thread_name name = list_any (bytes_eq name) thread_names
 
--- a type of this name is or inherits a thread type
-abbrev pub IsThread : AppParts → List ℕ → Type 0
-IsThread app name = (thread : List ℕ) × (is_thread_name thread ≡ true) × IsSubtype app name thread
+-- a type is or inherits a thread type
+abbrev pub IsThread : AppParts → ℕ → Type 0
+IsThread app t = (thread : ℕ) × (is_thread_name (type_text app thread) ≡ true) × ((t ≡ thread) ⊎ IsAncestor app.classes t thread)
 
 -- a call that is not static, of a method of a thread or of Executors
 abbrev pub IsThreadCall : AppParts → Option Act → Option Named → Type 0
 IsThreadCall app (Some (Call by usage arguments gives)) (Some named) =
     (is_instance by ≡ true)
-    × (IsThread app (type_text app named.class.0) ⊎ (type_text app named.class.0 ≡ codes "Ljava/util/concurrent/Executors;"))
+    × (IsThread app named.class.0 ⊎ (type_text app named.class.0 ≡ codes "Ljava/util/concurrent/Executors;"))
 IsThreadCall app act named = ⊥
 
 abbrev pub stores_new_at : AppParts → ℕ → Bool

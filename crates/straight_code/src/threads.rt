@@ -10,7 +10,7 @@ ghost use Rattle.straight_code.specs.Verdict.{IsSmallApp};
 use crate::body::CALLBACK;
 use act_model::{Act, By};
 use app_model::App;
-use ns_base::ClassNo;
+use ns_base::{ClassNo, TypeNo};
 
 const EXECUTORS: &[u8] = b"Ljava/util/concurrent/Executors;";
 
@@ -25,8 +25,8 @@ pub fn is_thread_call(app: &App, index: u32, act: &Act) -> bool
     };
     match app.named(CALLBACK, index) {
         Some(named) => {
-            let name = app.type_text(named.class);
-            is_instance(by) && (is_thread(app, name) || name == EXECUTORS)
+            is_instance(by)
+                && (is_thread(app, named.class) || app.type_text(named.class) == EXECUTORS)
         }
         None => false,
     }
@@ -39,23 +39,23 @@ fn is_instance(by: By) -> bool
     !matches!(by, By::Static)
 }
 
-// Whether a type of this name is or inherits a thread type.
+// Whether a type is or inherits a thread type.
 #[tactic(auto, using(crate::proofs::Supertypes::thread_here, crate::proofs::Supertypes::thread_above, crate::proofs::Supertypes::thread_by))]
-fn is_thread(app: &App, name: &[u8]) -> bool
+fn is_thread(app: &App, kind: TypeNo) -> bool
     requires { IsSmallApp app.now }
-    ensures { IsTrue result ↔ IsThread app.now name.now }
+    ensures { IsTrue result ↔ IsThread app.now kind.0 }
 {
-    is_thread_name(name) || has_thread_above(app, name)
+    is_thread_name(app.type_text(kind)) || has_thread_above(app, kind)
 }
 
-// Whether the name is that of the class, and its superclass is a thread type.
-fn has_thread_above(app: &App, name: &[u8]) -> bool
+// Whether the type is that of the class, and its superclass is a thread type.
+fn has_thread_above(app: &App, kind: TypeNo) -> bool
     requires small { IsSmallApp app.now }
-    ensures { (small : IsSmallApp app.now) → IsTrue result ↔ ((name.now ≡ type_text app.now small.class.name.0) × (spec.is_thread_name (type_text app.now small.parent.0) ≡ true)) }
+    ensures { (small : IsSmallApp app.now) → IsTrue result ↔ ((kind.0 ≡ small.class.name.0) × (spec.is_thread_name (type_text app.now small.parent.0) ≡ true)) }
 {
     let class = app.class(ClassNo(0));
     match class.parent {
-        Some(parent) => app.type_text(class.name) == name && is_thread_name(app.type_text(parent)),
+        Some(parent) => class.name.0 == kind.0 && is_thread_name(app.type_text(parent)),
         None => false,
     }
 }

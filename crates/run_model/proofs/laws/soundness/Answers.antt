@@ -1,4 +1,4 @@
-use Rattle.run_model.proofs.Runs.{counts_law, runs_law}
+use Rattle.run_model.proofs.Runs.{counts_law, relation_law, runs_law}
 use Rattle.run_model.proofs.laws.soundness.Goals as goal
 
 pub returns-clause-runs : goal.returns-clause-runs
@@ -6,3 +6,6 @@ returns-clause-runs c = runs_law
 
 pub returns-clause-counts : goal.returns-clause-counts
 returns-clause-counts c = counts_law
+
+pub returns-clause-relation : goal.returns-clause-relation
+returns-clause-relation c = relation_law
