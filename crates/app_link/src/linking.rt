@@ -111,7 +111,7 @@ pub fn link(alloc: Global, files: Vec<DexParts>) -> Result<App, LinkFault>
 {
     let parts = take_parts(alloc, files)?;
     let rows = check_parts(alloc, parts)?;
-    let app = App::new(alloc, rows)?;
+    let app = App::indexed(alloc, rows)?;
     match find_sites_fault(&app) {
         Some(fault) => Err(fault),
         None => Ok(app),

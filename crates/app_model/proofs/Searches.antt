@@ -7,7 +7,7 @@ use Rattle.app_model.specs.Hierarchy.{is_named_field, line, lock_in, nearest, or
 use Rattle.app_model.specs.Parts.{AppParts, ClassParts}
 
 -- the first that passes
-position_here : {X : Type 0} (p : X → Bool) (xs : List X) (i : ℕ) (d : X) → i < length xs → ((k : ℕ) → k < i → p (get_or xs k d) ≡ false)
+pub position_here : {X : Type 0} (p : X → Bool) (xs : List X) (i : ℕ) (d : X) → i < length xs → ((k : ℕ) → k < i → p (get_or xs k d) ≡ false)
     → p (get_or xs i d) ≡ true → Some i ≡ position p xs
 position_here p xs i d within before here =
     let at : _ ≡ i = position_or_len_is p xs i d (omega (arith, within)) before (λ _. here) in

@@ -1,27 +1,25 @@
 -- The index from types to classes, filled from the last class to the first.
-use Rattle.std.proofs.Common.{◌≡◌, ◌≢◌, ℕ, ◌<◌, ◌≤◌, false, List, length, drop, get_or, sym, arith, [], Option, Some, None, IfSome, option_map, eqb, ⊎_elim, ◌∙◌, ap, subst}
-use Rattle.std.proofs.lemmas.Bool.Decides.{eqb_tells}
+use Rattle.std.proofs.Common.{◌≡◌, ◌≢◌, ℕ, ◌<◌, ◌≤◌, List, length, drop, get_or, sym, arith, [], Option, Some, None, IfSome, option_map, eqb, ◌∙◌, ap, subst}
+use Rattle.std.proofs.lemmas.Bool.{eq-eqb, ne_eqb}
 use Rattle.std.proofs.lemmas.Iterator.Adapters.{position_from-zero}
 use Rattle.std.proofs.lemmas.List.Quantifiers.{position-Some}
 use Rattle.std.proofs.lemmas.Option.{slice_get_within, get_or_from_slice_get}
 use Rattle.std.specs.List.{position_from}
 use Rattle.ns_base.specs.declared.rows.ClassNo.{ClassNo}
 use Rattle.app_model.specs.Hierarchy.{class_of_type}
-use Rattle.app_model.specs.Parts.{AppParts, ClassParts}
+use Rattle.app_model.specs.Parts.{ClassParts}
 use Rattle.app_model.specs.Index.{IsIndex}
-use Rattle.app_model.specs.Sound.{IsSoundApp}
-use Rattle.app_model.proofs.Searches.{position_none}
+use Rattle.app_model.proofs.Searches.{position_here, position_none}
 
-not_equal : (a b : ℕ) → a ≢ b → eqb a b ≡ false
-not_equal a b ne = ⊎_elim (λ yes. absurd (ne yes.1)) (λ no. no.0) (eqb_tells a b)
-
--- no class has a type that is not there
-pub no_class : (app : AppParts) (t : ℕ) → IsSoundApp app → length app.types ≤ t → None ≡ class_of_type app.classes t
+-- the walk over the classes
+pub class_here : (classes : List ClassParts) (t c : ℕ) (d : ClassParts) → c < length classes → ((k : ℕ) → k < c → (get_or classes k d).name.0 ≢ t) → (get_or classes c d).name.0 ≡ t → Some c ≡ class_of_type classes t
 unfolding class_of_type
-no_class app t sound past =
-    position_none (λ (class : ClassParts). eqb class.name.0 t) app.classes (λ (k : ℕ) (d : ClassParts) (below : k < length app.classes).
-    let inside = (sound.ranges.classes k d below).name in
-    not_equal (get_or app.classes k d).name.0 t (λ (same : (get_or app.classes k d).name.0 ≡ t). omega (arith, inside, past, same)))
+class_here classes t c d below before here =
+    position_here (λ (class : ClassParts). eqb class.name.0 t) classes c d below (λ k less. ne_eqb (get_or classes k d).name.0 t (before k less)) (eq-eqb (get_or classes c d).name.0 t here)
+
+pub class_none : (classes : List ClassParts) (t : ℕ) → ((k : ℕ) (d : ClassParts) → k < length classes → (get_or classes k d).name.0 ≢ t) → None ≡ class_of_type classes t
+unfolding class_of_type
+class_none classes t none = position_none (λ (class : ClassParts). eqb class.name.0 t) classes (λ (k : ℕ) (d : ClassParts) (below : k < length classes). ne_eqb (get_or classes k d).name.0 t (none k d below))
 
 -- the class of a type is there
 pub class_within : (classes : List ClassParts) (t : ℕ) (found : Option ClassNo) → option_map (λ (c : ClassNo). c.0) found ≡ class_of_type classes t
@@ -39,10 +37,9 @@ pub record IsFilled (types : ℕ) (classes : List ClassParts) (c : ℕ) (index :
   pub len : length index ≡ types
   pub each : (t : ℕ) → t < types → option_map (λ (c : ClassNo). c.0) (get_or index t None) ≡ class_from c classes t
 
-pub all_filled : (types : ℕ) (classes : List ClassParts) (c : ℕ) (index : List (Option ClassNo)) → c ≤ 0 → IsFilled types classes c index → IsIndex types classes index
+pub all_filled : (types : ℕ) (classes : List ClassParts) (c : ℕ) (index : List (Option ClassNo)) → c ≤ 0 → IsFilled types classes c index → IsIndex classes index
 unfolding class_of_type
 all_filled types classes c index none filled = let first : 0 ≡ c = omega arith in record {
-  len = filled.len;
   each = λ t found is.
       let below = slice_get_within index t found is in
       let here : option_map (λ (c : ClassNo). c.0) (get_or index t None) ≡ class_from 0 classes t =

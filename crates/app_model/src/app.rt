@@ -13,33 +13,47 @@ use std::alloc::{AllocError, Global};
 use std::marker::Model;
 
 /// All that the layers above read of the files: rows by number, and each method's code.
-/// `index` has the class of each type.
+/// `index` has the class of each type, where it is kept.
 #[derive(Drop)]
 pub struct App {
     pub(crate) rows: AppRows,
-    pub(crate) index: Vec<Option<ClassNo>>,
+    pub(crate) index: Option<Vec<Option<ClassNo>>>,
 }
 
 impl Model for App {
     ghost use Rattle.app_model.specs.Parts.{AppParts};
-    ghost use Rattle.std.specs.Prelude.{length};
-    ghost use Rattle.app_model.specs.Index.{IsIndex};
+    ghost use Rattle.app_model.specs.Index.{KeepsIndex};
     ghost use Rattle.app_model.specs.Sound.{IsSoundApp};
 
     ghost Value = { AppParts };
 
     ghost view = { λ a. a.rows };
 
-    ghost invariant = { λ a. IsSoundApp a.rows × IsIndex (length a.rows.types) a.rows.classes a.index.items };
+    ghost invariant = { λ a. IsSoundApp a.rows × KeepsIndex a.rows.classes a.index };
 }
 
 impl App {
-    pub fn new(alloc: Global, rows: AppRows) -> Result<App, AllocError>
+    /// Takes no memory. The class of a type is found by a walk over the classes.
+    pub fn new(rows: AppRows) -> App
+        requires { IsSoundApp rows }
+        ensures { result ≡ rows }
+    {
+        App {
+            rows,
+            index: None,
+        }
+    }
+
+    /// The same with an index from types to classes.
+    pub fn indexed(alloc: Global, rows: AppRows) -> Result<App, AllocError>
         requires { IsSoundApp rows }
         ensures { IfOk result (λ app. app ≡ rows) }
     {
         let index = index_types(alloc, rows.types.len(), &rows.classes)?;
-        Ok(App { rows, index })
+        Ok(App {
+            rows,
+            index: Some(index),
+        })
     }
 
     /// What holds of each application.

@@ -1,9 +1,9 @@
 //! Classes by their types, and the classes above them.
-ghost use Rattle.std.specs.Prelude.{◌≡◌, ◌<◌, ◌^◌, IfOk, IfSome, None, length, option_map, replicate};
+ghost use Rattle.std.specs.Prelude.{◌≡◌, ◌<◌, ◌^◌, IfOk, IfSome, None, length, List, option_map, replicate};
 ghost use Rattle.std.specs.List.{All};
 ghost use Rattle.ns_base.specs.declared.rows.ClassNo.{ClassNo};
 ghost use Rattle.app_model.specs.Hierarchy.{class_of_type, superclass_at};
-ghost use Rattle.app_model.specs.Index.{IsIndex};
+ghost use Rattle.app_model.specs.Index.{IsIndex, KeepsIndex};
 ghost use Rattle.app_model.specs.Parts.{ClassParts};
 
 use crate::app::App;
@@ -30,7 +30,7 @@ pub(crate) fn index_types(
 ) -> Result<Vec<Option<ClassNo>>, AllocError>
     requires names { All (λ (class : ClassParts). class.name.0 < count) classes.now }
     requires few { length classes.now < 2 ^ 32 }
-    ensures { IfOk result (λ index. IsIndex count classes.now index.items) }
+    ensures { IfOk result (λ index. IsIndex classes.now index.items) }
 {
     let mut index = no_classes(alloc, count)?;
     for c in (0..classes.len()).rev() {
@@ -40,16 +40,42 @@ pub(crate) fn index_types(
     Ok(index)
 }
 
+// What an index that is kept says of a type.
+fn kept_class(index: &Option<Vec<Option<ClassNo>>>, kind: TypeNo) -> Option<Option<ClassNo>>
+    ensures { (classes : List ClassParts) → KeepsIndex classes index.now
+        → IfSome result (λ found. option_map (λ (c : ClassNo). c.0) found ≡ class_of_type classes kind.0) }
+{
+    match index {
+        Some(index) => index.get(kind.0 as usize).copied(),
+        None => None,
+    }
+}
+
+// The first class of a type, by a walk over the classes.
+#[tactic(auto, unfolding(crate::specs::Hierarchy::class_of_type))]
+fn find_class(classes: &[ClassRow], kind: TypeNo) -> Option<ClassNo>
+    requires few { length classes.now < 2 ^ 32 }
+    ensures is { option_map (λ (c : ClassNo). c.0) result ≡ class_of_type classes.now kind.0 }
+    ensures within { IfSome result (λ c. c.0 < length classes.now) }
+{
+    for c in 0..classes.len() {
+        let class = &classes[c];
+        if class.name.0 == kind.0 {
+            return Some(ClassNo(c as u32));
+        }
+    }
+    None
+}
+
 impl App {
     /// The class of a type, if it is one of the application's.
     pub fn class_of_type(&self, kind: TypeNo) -> Option<ClassNo>
         ensures is { option_map (λ (c : ClassNo). c.0) result ≡ class_of_type self.now.classes kind.0 }
         ensures within { IfSome result (λ c. c.0 < length self.now.classes) }
     {
-        if kind.0 < self.type_count() {
-            self.index[kind.0 as usize]
-        } else {
-            None
+        match kept_class(&self.index, kind) {
+            Some(found) => found,
+            None => find_class(&self.rows.classes, kind),
         }
     }
 

@@ -12,4 +12,4 @@ pub mod LockCalls
 pub mod Calls
 pub mod Instructions
 pub mod Runs
-mod Example
+pub mod Worked

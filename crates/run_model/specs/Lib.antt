@@ -4,3 +4,4 @@ pub mod Machine
 pub mod Tagged
 pub mod Relation
 pub mod Soundness
+pub mod Worked

@@ -11,6 +11,7 @@ ghost use Rattle.run_model.specs.Machine.{Callback, Frame, Idle, Running, option
 ghost use Rattle.run_model.specs.Relation.{Each, IsHeap, IsIdle, IsInside, IsSound};
 ghost use Rattle.run_model.specs.Soundness.{HoldsLock, LeavesNoneHeld, StandsWell};
 ghost use Rattle.run_model.specs.Tagged.{IsTagged};
+ghost use Rattle.run_model.specs.Worked.{ClearsOwned, CopyDown, CopyUp, DivisionByTwo, DivisionThrows, KeepsStatic, LeavesFree, LeavesHeld, LockEscapes, LosesLock, MakingThrows, MonitorOnNull, MonitorOnObject, NonzeroBranches, OutsideEnds, ReceiverFirst, ReleaseThrows, ServiceFirst, StoreToNull, StoreToObject, SwitchGoes, WideRead, ZeroBranches};
 
 /// Soundness: what a closed set of facts that meets the policy says of every run. The relation between the set and the
 /// state in which a run stands needs no policy.
@@ -29,4 +30,31 @@ pub fn soundness_inside()
 /// A status is held exactly where the field owns a lock with a count above zero.
 pub fn held_statuses()
     ensures held { (n l : ℕ) (h : Heap) → IsHeap n h → (is_held (status h l) ≡ true) ↔ HoldsLock h l }
+{}
+
+/// Runs of small applications by computation, so that an error which the rules share with the machine shows.
+pub fn worked_runs()
+    ensures division { DivisionThrows }
+    ensures literal { DivisionByTwo }
+    ensures wide_read { WideRead }
+    ensures null_monitor { MonitorOnNull }
+    ensures monitor { MonitorOnObject }
+    ensures null_store { StoreToNull }
+    ensures store { StoreToObject }
+    ensures switch { SwitchGoes }
+    ensures zero { ZeroBranches }
+    ensures nonzero { NonzeroBranches }
+    ensures up { CopyUp }
+    ensures down { CopyDown }
+    ensures held { LeavesHeld }
+    ensures free { LeavesFree }
+    ensures release { ReleaseThrows }
+    ensures escape { LockEscapes }
+    ensures throws { MakingThrows }
+    ensures lost { LosesLock }
+    ensures kept { KeepsStatic }
+    ensures cleared { ClearsOwned }
+    ensures receiver { ReceiverFirst }
+    ensures service { ServiceFirst }
+    ensures outside { OutsideEnds }
 {}
