@@ -1,23 +1,20 @@
 -- The tags of the path's subject follow the code, and no lock escapes.
 use Rattle.std.proofs.Common.{◌≡◌, ◌<◌, ℕ, zero, suc, Bool, true, false, List, [], ◌∷◌, Option, Some, None, refl, sym, ap, ◌∙◌, subst, ⊎_elim, true≢false, arith, add-one, eq-or-lt_of_le}
 use Rattle.std.proofs.lemmas.Bool.{cases_lt}
-use Rattle.ns_base.specs.declared.rows.LockNo.{LockNo}
-use Rattle.app_model.specs.declared.component.Edge.{Edge}
 use Rattle.app_model.specs.declared.tag.Tag.{Tag}
-use Rattle.app_model.specs.Components.{edge_at, callback_at, creating}
+use Rattle.app_model.specs.Components.{callback_at}
 use Rattle.app_model.specs.Parts.{AppParts}
 use Rattle.app_model.specs.Sites.{site_at}
-use Rattle.app_model.specs.Subject.{SubjectParts, outside_at, row_at, slot_count}
+use Rattle.app_model.specs.Subject.{SubjectParts, outside_at, row_at}
 use Rattle.app_model.specs.Words.{code_len, successor_at, handler_at}
 use Rattle.act_model.specs.declared.act.Act.{Act}
-use Rattle.act_model.specs.declared.act.Act.TheVariants.{Return, WriteSlot, Call}
+use Rattle.act_model.specs.declared.act.Act.TheVariants.{Return, Call}
 use Rattle.act_model.specs.declared.act.Returned.TheVariants.{Nothing}
-use Rattle.act_model.specs.declared.act.Throws.{Throws}
 use Rattle.act_model.specs.Acts.{act_at}
 use Rattle.act_model.specs.Changes.{after}
 use Rattle.act_model.specs.Tags.{itself}
 use Rattle.flow_model.specs.Scope.{is_escape, is_wrong_call}
-use Rattle.flow_model.proofs.TestLaws.{none_some, same_number}
+use Rattle.flow_model.proofs.TestLaws.{none_some}
 use Rattle.flow_model.specs.TagFlow.{leads_on}
 use Rattle.run_model.specs.Tagged.{IsTagged, IsEntered, IsUnder}
 use Rattle.straight_code.specs.Body.{IsPlainBody}
@@ -25,7 +22,7 @@ use Rattle.straight_code.specs.Path.{row_before, row_after, path_subject, receiv
 use Rattle.straight_code.specs.Scope.{IsInScope}
 use Rattle.straight_code.specs.Verdict.{IsSmallApp}
 use Rattle.straight_code.proofs.PathRows.{outside_is, row_is}
-use Rattle.straight_code.proofs.Plain.{one_way, no_handler, returns_last, no_handler_past, no_act_past, plain_act_at}
+use Rattle.straight_code.proofs.Plain.{one_way, no_handler, returns_last, no_handler_past, no_act_past}
 
 under_itself : (row : List Tag) → IsUnder row row
 under_itself row = record { same = refl; each = λ r l. itself }
@@ -38,15 +35,6 @@ the_callback zero zero m h = sym (inner m h)
     inner m p = cc
 the_callback zero (suc k) m h = absurd (none_some m None refl h)
 the_callback (suc c) k m h = absurd (none_some m None refl h)
-
-there_is : (c e : ℕ) (edge : Edge) → edge_at (receiver ∷ []) c e ≡ Some edge → (m : ℕ) × (callback_at (receiver ∷ []) c edge.callback ≡ Some m)
-unfolding edge_at callback_at
-there_is zero zero edge h = (0, subst (λ (z : Edge). callback_at (receiver ∷ []) 0 z.callback ≡ Some 0) (inner edge h) refl)
-  where
-    inner : (z : Edge) → Some (creating 0 0 0) ≡ Some z → creating 0 0 0 ≡ z
-    inner z p = cc
-there_is zero (suc e) edge h = absurd (none_some edge None refl h)
-there_is (suc c) e edge h = absurd (none_some edge None refl h)
 
 abbrev leads_by : Option Act → Bool
 leads_by None = false
@@ -86,12 +74,6 @@ module _ (app : AppParts) (small : IsSmallApp app) (plain : IsPlainBody app) (sc
       let a = scope.each i lt in
       subst (λ (row : List Tag). (is_escape (act_at app 0 i) row ≡ false) × (is_wrong_call (act_at app 0 i) row ≡ false)) (sym (row_is app small plain i (omega (arith, lt, plain.len)))) (a.escape, a.call))
       (λ ge. rw (no_act_past app i ge) (refl, refl)) (cases_lt i (code_len app 0))
-
-  slot_there : (i from : ℕ) (l : LockNo) (when : Throws) → act_at app 0 i ≡ Some (WriteSlot from l when) → l.0 < slot_count x
-  unfolding slot_count
-  slot_there i from l when there =
-      let first = same_number l.0 0 (plain_act_at app plain i (before_last i (WriteSlot from l when) there refl) (WriteSlot from l when) there) in
-      omega (arith, first, small.locks)
 
   begins : IsUnder (row_before app 0 0) (row_at x 0 0)
   begins = subst (λ (row : List Tag). IsUnder (row_before app 0 0) row) (sym (row_is app small plain 0 (omega arith))) (under_itself _)

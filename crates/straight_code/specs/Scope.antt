@@ -8,9 +8,8 @@ use Rattle.app_model.specs.Words.{code_len, named_at}
 use Rattle.app_model.specs.Names.{type_text}
 use Rattle.act_model.specs.declared.act.Act.{Act}
 use Rattle.act_model.specs.declared.act.Act.TheVariants.{Call}
-use Rattle.act_model.specs.declared.act.By.{By}
-use Rattle.act_model.specs.declared.act.By.TheVariants.{Virtual, Super, Direct, Static}
 use Rattle.act_model.specs.Acts.{act_at}
+use Rattle.flow_model.specs.Passes.{is_instance}
 use Rattle.flow_model.specs.Scope.{is_escape, is_wrong_call, stores_new}
 use Rattle.straight_code.specs.Path.{row_before}
 
@@ -28,16 +27,10 @@ is_thread_name name = list_any (bytes_eq name) thread_names
 abbrev pub IsThread : AppParts → ℕ → Type 0
 IsThread app t = (thread : ℕ) × (is_thread_name (type_text app thread) ≡ true) × ((t ≡ thread) ⊎ IsAncestor app.classes t thread)
 
-abbrev pub is_static : By → Bool
-is_static Static = true
-is_static Virtual = false
-is_static Super = false
-is_static Direct = false
-
 -- a call that is not static, of a method of a thread or of Executors
 abbrev pub IsThreadCall : AppParts → Option Act → Option Named → Type 0
 IsThreadCall app (Some (Call by usage arguments gives)) (Some named) =
-    (is_static by ≡ false)
+    (is_instance by ≡ true)
     × (IsThread app named.class.0 ⊎ (type_text app named.class.0 ≡ codes "Ljava/util/concurrent/Executors;"))
 IsThreadCall app act named = ⊥
 

@@ -2,6 +2,7 @@
 ghost use Rattle.std.specs.Prelude.{◌≡◌, ◌↔◌, ◌<◌, Some, IsTrue, true};
 ghost use Rattle.app_model.specs.Words.{code_len, named_at};
 ghost use Rattle.app_model.specs.Names.{type_text};
+ghost use Rattle.flow_model.specs.Passes.{is_instance};
 ghost use Rattle.straight_code.specs.Scope as spec;
 ghost use Rattle.straight_code.specs.Scope.{IsThread, IsThreadCall};
 ghost use Rattle.straight_code.specs.Verdict.{IsSmallApp};
@@ -24,17 +25,18 @@ pub fn is_thread_call(app: &App, index: u32, act: &Act) -> bool
     };
     match app.named(CALLBACK, index) {
         Some(named) => {
-            !is_static(by)
+            is_instance(by)
                 && (is_thread(app, named.class) || app.type_text(named.class) == EXECUTORS)
         }
         None => false,
     }
 }
 
-fn is_static(by: By) -> bool
-    ensures { result ≡ spec.is_static by }
+// Whether a call has a receiver.
+fn is_instance(by: By) -> bool
+    ensures { result ≡ is_instance by }
 {
-    matches!(by, By::Static)
+    !matches!(by, By::Static)
 }
 
 // Whether a type is or inherits a thread type.
