@@ -416,7 +416,9 @@ fn three_files_that_were_read_are_linked(rt: HostRuntime) -> Result<(), Fail> {
 
 #[test]
 fn three_files_are_linked(rt: HostRuntime) -> Result<(), Fail> {
-    let rows = check_forms(rt.alloc(), &THREE).ok().ok_or("the files link")?;
+    let rows = check_forms(rt.alloc(), &THREE)
+        .ok()
+        .ok_or("the files link")?;
     assert_eq!(rt; rows.classes.len(), 3);
     let [_, _, last] = rows.types.as_slice() else {
         return Err("three types".into());

@@ -38,10 +38,7 @@ impl App {
         requires { IsSoundApp rows }
         ensures { result ≡ rows }
     {
-        App {
-            rows,
-            index: None,
-        }
+        App { rows, index: None }
     }
 
     /// The same with an index from types to classes.
