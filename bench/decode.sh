@@ -5,5 +5,5 @@ set -eu
 
 . "$(dirname "$0")/workspace.sh"
 
-make_workspace decode "dalvik_decode app_model" ns_base app_model dalvik_decode
+make_workspace decode "dalvik_decode dalvik" ns_base dalvik dalvik_decode
 (cd "$work/crates/decode" && rt run) 2> "$work/build.txt" || { cat "$work/build.txt"; exit 1; }

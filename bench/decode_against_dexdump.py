@@ -16,7 +16,7 @@ import sys
 import tempfile
 
 top = pathlib.Path(__file__).resolve().parent.parent
-CRATES = ("ns_base", "app_model", "dalvik_decode")
+CRATES = ("ns_base", "dalvik", "dalvik_decode")
 
 
 def names():
@@ -85,7 +85,7 @@ def build(work):
     for crate in CRATES:
         shutil.copytree(top / "crates" / crate, work / "crates" / crate)
     (work / "crates.txt").write_text(
-        "ns_base:\napp_model: ns_base\ndalvik_decode: app_model ns_base\nsweep: dalvik_decode\n")
+        "ns_base:\ndalvik: ns_base\ndalvik_decode: dalvik ns_base\nsweep: dalvik_decode\n")
     shutil.copy(top / "HANDLES", work / "HANDLES")
     (work / "none").write_text("")
     run = subprocess.run(["rt", "run", "--", str(work / "none")], cwd=work / "crates/sweep", capture_output=True, text=True)
