@@ -1,1 +1,2 @@
 pub mod TagLaws
+mod Examples
