@@ -6,6 +6,8 @@ use Rattle.dalvik.specs.declared.opcode.TheConstants.{MOVE_RESULT_WIDE, RETURN_W
 use Rattle.dalvik.specs.Descriptors.{is_reference}
 use Rattle.dalvik.specs.Registers.{is_wide_move, is_wide_const, is_wide_unary, is_wide_binary}
 use Rattle.app_model.specs.declared.rows.Named.{Named}
+use Rattle.app_model.specs.declared.lock_use.LockUse.{LockUse}
+use Rattle.app_model.specs.declared.lock_use.LockUse.TheVariants.{Plain, Make, Acquire, Release, IsHeld, Mode, Wrong}
 use Rattle.app_model.specs.Parts.{AppParts}
 use Rattle.app_model.specs.Words.{ins_at, named_at}
 use Rattle.app_model.specs.Names.{result_text}
@@ -17,6 +19,8 @@ use Rattle.act_model.specs.declared.act.By.{By}
 use Rattle.act_model.specs.declared.act.By.TheVariants.{Virtual, Super, Direct, Static}
 use Rattle.act_model.specs.declared.act.Gives.{Gives}
 use Rattle.act_model.specs.declared.act.Gives.TheVariants.{Nothing, Number, Object}
+use Rattle.act_model.specs.declared.act.LockOp.{LockOp}
+use Rattle.act_model.specs.declared.act.LockOp.TheVariants as ops
 use Rattle.act_model.specs.declared.act.Returned.TheVariants as returned
 use Rattle.act_model.specs.declared.act.Throws.{Throws}
 use Rattle.act_model.specs.declared.act.Throws.TheVariants.{Never, ByChoice, WhereZero}
@@ -83,6 +87,16 @@ gives_of text = if bytes_eq text (codes "V") then Nothing else (if is_reference 
 abbrev pub call_gives : AppParts → Option Named → Gives
 call_gives app None = Nothing
 call_gives app (Some named) = gives_of (result_text app named.proto.0)
+
+-- what a call does as a lock call, by what it is to the wake locks; None where it is no lock call
+abbrev pub op_of : LockUse → Option LockOp
+op_of Acquire = Some ops.Acquire
+op_of Release = Some ops.Release
+op_of IsHeld = Some ops.IsHeld
+op_of Mode = Some ops.Mode
+op_of Plain = None
+op_of Make = None
+op_of Wrong = None
 
 -- the zero branch of a test is taken to the target by if-eqz, and to the next instruction by if-nez
 abbrev pub test_of : (op value : ℕ) → Act

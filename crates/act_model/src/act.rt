@@ -62,6 +62,19 @@ pub enum By {
     Static,
 }
 
+/// What a lock call does to its receiver.
+#[derive(Clone, Copy)]
+pub enum LockOp {
+    /// `acquire`
+    Acquire,
+    /// `release`
+    Release,
+    /// `isHeld`
+    IsHeld,
+    /// `setReferenceCounted`
+    Mode,
+}
+
 /// What a call gives, by the result type of its prototype.
 #[derive(Clone, Copy)]
 pub enum Gives {
@@ -379,6 +392,19 @@ fn write_act(from: u32, slot: Option<LockNo>, throws: Throws) -> Act
 }
 
 // ---- calls
+
+/// What a call does as a lock call; None where it is none.
+pub fn op_of(usage: LockUse) -> Option<LockOp>
+    ensures { result ≡ spec.op_of usage }
+{
+    match usage {
+        LockUse::Acquire => Some(LockOp::Acquire),
+        LockUse::Release => Some(LockOp::Release),
+        LockUse::IsHeld => Some(LockOp::IsHeld),
+        LockUse::Mode => Some(LockOp::Mode),
+        LockUse::Plain | LockUse::Make | LockUse::Wrong => None,
+    }
+}
 
 fn call(app: &App, method: MethodNo, index: u32, op: u8, args: Args) -> Act
     requires method { method.0 < length app.now.methods }

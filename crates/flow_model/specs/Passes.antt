@@ -1,6 +1,6 @@
 -- With which statuses of lock field l an instruction goes on, and with which it throws, by the tags before it and the
 -- status before it. Statuses are masks; l is the lock under solution.
-use Rattle.std.specs.Prelude.{ℕ, ◌==◌, Bool, true, false, if◌then◌else◌, List, bit_or}
+use Rattle.std.specs.Prelude.{ℕ, ◌==◌, ◌||◌, Bool, true, false, if◌then◌else◌, List, bit_or, is_some}
 use Rattle.ns_base.specs.declared.rows.LockNo.{LockNo}
 use Rattle.dalvik.specs.Calls.{receiver_of, argument_of}
 use Rattle.app_model.specs.Masks.{in_mask}
@@ -14,6 +14,7 @@ use Rattle.act_model.specs.declared.act.By.{By}
 use Rattle.act_model.specs.declared.act.By.TheVariants.{Virtual, Super, Direct, Static}
 use Rattle.act_model.specs.declared.act.Throws.{Throws}
 use Rattle.act_model.specs.declared.act.Throws.TheVariants.{Never, ByChoice, WhereZero}
+use Rattle.act_model.specs.Acts.{op_of}
 use Rattle.act_model.specs.Changes.{tag_in}
 use Rattle.flow_model.specs.declared.passes.Nullness.{Nullness}
 use Rattle.flow_model.specs.declared.passes.Nullness.TheVariants.{Nothing, Null, NotNull, Own, Unknown}
@@ -99,7 +100,11 @@ slot_passes l k stored s = if is_slot l k then stored_passes stored s else only 
 abbrev pub if_passes : (passed image : ℕ) → ℕ
 if_passes passed image = if passed == 0 then 0 else image
 
--- ---- calls: all but static ones have a receiver, and every lock call has one
+-- ---- calls
+abbrev pub is_lock_call : LockUse → Bool
+is_lock_call usage = is_some (op_of usage)
+
+-- all calls but static ones have a receiver, and every lock call has one
 abbrev pub is_instance : By → Bool
 is_instance Static = false
 is_instance Virtual = true
@@ -107,13 +112,7 @@ is_instance Super = true
 is_instance Direct = true
 
 abbrev pub has_receiver : LockUse → By → Bool
-has_receiver Plain by = is_instance by
-has_receiver Make by = is_instance by
-has_receiver Wrong by = is_instance by
-has_receiver Acquire by = true
-has_receiver Release by = true
-has_receiver IsHeld by = true
-has_receiver Mode by = true
+has_receiver usage by = is_lock_call usage || is_instance by
 
 -- where there is no receiver, nothing is null
 abbrev pub receiver_nullness : (there : Bool) → ℕ → Tag → Nullness
@@ -202,15 +201,6 @@ is_open_act l (Call by usage arguments gives) row s =
 is_open_act l act row s = false
 
 -- ---- an own operation of l: a lock call on what it holds, or a store to it
-abbrev pub is_lock_call : LockUse → Bool
-is_lock_call Acquire = true
-is_lock_call Release = true
-is_lock_call IsHeld = true
-is_lock_call Mode = true
-is_lock_call Plain = false
-is_lock_call Make = false
-is_lock_call Wrong = false
-
 -- the tag of what lock field l holds
 abbrev pub is_field : ℕ → Tag → Bool
 is_field l (Field k) = k.0 == l

@@ -10,7 +10,7 @@ ghost use Rattle.flow_model.specs.Status as table;
 
 use crate::masks::has_status;
 use crate::status;
-use act_model::{Act, By, Row, Throws, receiver_tag};
+use act_model::{Act, By, Row, Throws, op_of, receiver_tag};
 use app_model::{LockUse, Tag};
 use dalvik::Args;
 use ns_base::LockNo;
@@ -158,10 +158,7 @@ fn is_field(lock: LockNo, tag: Tag) -> bool
 pub(crate) fn is_lock_call(usage: LockUse) -> bool
     ensures { result ≡ spec.is_lock_call usage }
 {
-    match usage {
-        LockUse::Acquire | LockUse::Release | LockUse::IsHeld | LockUse::Mode => true,
-        LockUse::Plain | LockUse::Make | LockUse::Wrong => false,
-    }
+    op_of(usage).is_some()
 }
 
 /// Whether a lock field that is read or written is this one.
@@ -313,10 +310,7 @@ fn receiver_of<R: Row>(lock: LockNo, call: (LockUse, By), row: &R, args: &Args) 
 fn has_receiver(usage: LockUse, by: By) -> bool
     ensures { result ≡ spec.has_receiver usage by }
 {
-    match usage {
-        LockUse::Plain | LockUse::Make | LockUse::Wrong => is_instance(by),
-        LockUse::Acquire | LockUse::Release | LockUse::IsHeld | LockUse::Mode => true,
-    }
+    is_lock_call(usage) || is_instance(by)
 }
 
 fn is_instance(by: By) -> bool

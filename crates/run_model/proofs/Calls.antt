@@ -1,7 +1,7 @@
 -- Calls keep the relation.
 use Rattle.std.proofs.Common.{◌≡◌, ℕ, suc, Bool, true, false, if◌then◌else◌, List, [], ◌∷◌, ◌++◌, length, map, Option, Some, None, slice_get, refl, sym, ap, ◌∙◌, arith, subst, length-append}
-use Rattle.std.specs.Prelude.{◌==◌, ◌&&◌, nat_le}
-use Rattle.std.proofs.lemmas.Bool.{and_parts, and_from, or_parts, false≢true}
+use Rattle.std.specs.Prelude.{◌==◌, ◌&&◌, nat_le, is_some}
+use Rattle.std.proofs.lemmas.Bool.{and_parts, and_from, or_parts, or_right, false≢true}
 use Rattle.dalvik.specs.declared.ins.Args.{Args}
 use Rattle.app_model.specs.declared.tag.Tag.{Tag}
 use Rattle.app_model.specs.declared.tag.Tag.TheVariants as tag
@@ -11,6 +11,8 @@ use Rattle.app_model.specs.Words.{named_at}
 use Rattle.act_model.specs.declared.act.By.{By}
 use Rattle.act_model.specs.declared.act.By.TheVariants.{Virtual, Super, Direct, Static}
 use Rattle.act_model.specs.declared.act.Gives.{Gives}
+use Rattle.act_model.specs.declared.act.LockOp.{LockOp}
+use Rattle.act_model.specs.declared.act.LockOp.TheVariants as ops
 use Rattle.flow_model.specs.declared.passes.Nullness.{Nullness}
 use Rattle.flow_model.specs.declared.passes.Nullness.TheVariants.{NotNull}
 use Rattle.flow_model.specs.Status.{only}
@@ -18,7 +20,7 @@ use Rattle.flow_model.proofs.MaskLaws.{IsIn-or_right}
 use Rattle.act_model.specs.declared.act.Act.{Act}
 use Rattle.act_model.specs.declared.act.Act.TheVariants.{Call}
 use Rattle.dalvik.specs.Calls.{receiver_of, argument_of, arg_at, args_len}
-use Rattle.act_model.specs.Acts.{act_at}
+use Rattle.act_model.specs.Acts.{act_at, op_of}
 use Rattle.act_model.specs.Changes.{tag_in, call_change, given_tag}
 use Rattle.flow_model.specs.Derived.{Set}
 use Rattle.app_model.specs.Sites.{site_at}
@@ -27,7 +29,7 @@ use Rattle.flow_model.specs.Passes.{has_receiver, is_instance, is_lock_call, pas
 use Rattle.flow_model.specs.Scope.{call_escapes, escapes_as_receiver, is_escape, may_be_lock, passes_lock}
 use Rattle.app_model.specs.Subject.{SubjectParts, slot_count}
 use Rattle.run_model.specs.Heaps.{Value, Zero, Nonzero, Object, LockRef, Heap, Lock, cell, is_owned, lock_at, new_lock, status, with_new}
-use Rattle.run_model.specs.Machine.{Frame, Over, Stuck, Escape, register, is_lock_in, gives_lock, receiver_in, lacks_argument, answers, answers_of, throws_from, lock_call_options, full_lock_call_options, operation_options, answer_options, object_options, outside_answers, outside_options, receiver_options, call_options, may_receive}
+use Rattle.run_model.specs.Machine.{Frame, Over, Stuck, Escape, register, is_lock_in, gives_lock, receiver_in, lacks_argument, answers, answers_of, throws_from, lock_call_options, full_lock_call_options, operation_options, answer_options, object_options, outside_answers, outside_options, receiver_options, call_by_op, call_options, may_receive}
 use Rattle.run_model.specs.Relation.{AreTagged, Each, IsHeap, IsInside, IsNew, Means}
 use Rattle.flow_model.proofs.TestLaws.{some_below, below_some}
 use Rattle.run_model.proofs.Members.{each_append, each_if, each_map}
@@ -57,9 +59,16 @@ not_empty : (b : Bool) (o : Option Value) (v : Value) → (if b then None else o
 not_empty true o v e = absurd (let none : None ≡ Some v = e in cc)
 not_empty false o v e = e
 
-has_argument : (o : Option Value) → lacks_argument Mode o ≡ false → (v : Value) × (o ≡ Some v)
+has_argument : (o : Option Value) → lacks_argument ops.Mode o ≡ false → (v : Value) × (o ≡ Some v)
 has_argument None e = cc
 has_argument (Some v) e = (v, refl)
+
+-- the argument of setReferenceCounted is there
+mode_argument : (usage : LockUse) (op : LockOp) (o : Option Value) → op_of usage ≡ Some op → lacks_argument op o ≡ false → usage ≡ Mode → (v : Value) × (o ≡ Some v)
+mode_argument usage op o e full mode =
+    let some : Some op ≡ Some ops.Mode = sym e ∙ ap op_of mode in
+    let is : op ≡ ops.Mode = cc in
+    has_argument o (subst (λ (q : LockOp). lacks_argument q o ≡ false) is full)
 
 escapes_by_argument : (b : Bool) (row : List Tag) (arguments : Args) → b ≡ true → call_escapes b row arguments ≡ false → passes_lock row arguments 1 ≡ false
 escapes_by_argument true row arguments e no_escape = (or_parts (escapes_as_receiver (tag_in row (receiver_of arguments))) (passes_lock row arguments 1) no_escape).1
@@ -75,22 +84,10 @@ escapes_outside false row arguments e no_escape = no_escape
 
 -- every lock call has a receiver, and so has every call of an instance
 lock_receiver : (usage : LockUse) (by : By) → is_lock_call usage ≡ true → has_receiver usage by ≡ true
-lock_receiver Acquire by is = refl
-lock_receiver Release by is = refl
-lock_receiver IsHeld by is = refl
-lock_receiver Mode by is = refl
-lock_receiver Plain by is = cc
-lock_receiver Make by is = cc
-lock_receiver Wrong by is = cc
+lock_receiver usage by is = rw is refl
 
 instance_receiver : (usage : LockUse) (by : By) → is_instance by ≡ true → has_receiver usage by ≡ true
-instance_receiver Acquire by is = refl
-instance_receiver Release by is = refl
-instance_receiver IsHeld by is = refl
-instance_receiver Mode by is = refl
-instance_receiver Plain by is = is
-instance_receiver Make by is = is
-instance_receiver Wrong by is = is
+instance_receiver usage by is = or_right (is_lock_call usage) (is_instance by) is
 
 module _ (x : SubjectParts) (own : ℕ) (set_of : Set) (p : Premises x own set_of) where
   -- no null is called: the call passes, and throws by choice, where it leads outside
@@ -162,14 +159,14 @@ module _ (x : SubjectParts) (own : ℕ) (set_of : Set) (p : Premises x own set_o
         let tags = tagged_map (row_of x own set_of p f) f.registers t.lo (length h.locks) h t.registers (call_change Make (receiver_tag x own set_of p f arguments)) (length grown.locks) grown (means_kept t.lo (length h.locks) (length grown.locks) h grown make_keeps) in
         (answer_ok x own set_of p h grown f rest by Make arguments given (LockRef (length h.locks)) t is (grown_heap h site (slot_count x) ok) (omega (arith, one_more)) mask tags made, tt)
 
-    answer_options_ok : (usage : LockUse) → IsFull h (nullness_of usage) → act_at x.app f.method f.index ≡ Some (Call by usage arguments given) → Each (IsInside x own set_of) (answer_options x p.at h f rest usage given)
-    answer_options_ok Plain full is = plain_ok full is
-    answer_options_ok Wrong full is = wrong_ok full is
-    answer_options_ok Make full is = make_ok full is
-    answer_options_ok Acquire full is = tt
-    answer_options_ok Release full is = tt
-    answer_options_ok IsHeld full is = tt
-    answer_options_ok Mode full is = tt
+    answer_options_ok : (usage : LockUse) → is_lock_call usage ≡ false → IsFull h (nullness_of usage) → act_at x.app f.method f.index ≡ Some (Call by usage arguments given) → Each (IsInside x own set_of) (answer_options x p.at h f rest usage given)
+    answer_options_ok Plain off full is = plain_ok full is
+    answer_options_ok Wrong off full is = wrong_ok full is
+    answer_options_ok Make off full is = make_ok full is
+    answer_options_ok Acquire off full is = cc
+    answer_options_ok Release off full is = cc
+    answer_options_ok IsHeld off full is = cc
+    answer_options_ok Mode off full is = cc
 
     -- and where it throws
     full_throws : (usage : LockUse) → is_lock_call usage ≡ false → IsFull h (nullness_of usage) → in_mask (throws own (Call by usage arguments given) (row_of x own set_of p f) (out_of x own set_of p f) (status h own)) (status h own) ≡ true
@@ -183,7 +180,7 @@ module _ (x : SubjectParts) (own : ℕ) (set_of : Set) (p : Premises x own set_o
 
     pub outside_answers_ok : (usage : LockUse) → is_lock_call usage ≡ false → IsFull h (nullness_of usage) → act_at x.app f.method f.index ≡ Some (Call by usage arguments given) → Each (IsInside x own set_of) (outside_answers x p.at h f rest usage given)
     outside_answers_ok usage off full is =
-        each_append (IsInside x own set_of) (answer_options x p.at h f rest usage given) (throws_from x p.at h (f ∷ rest)) (answer_options_ok usage full is)
+        each_append (IsInside x own set_of) (answer_options x p.at h f rest usage given) (throws_from x p.at h (f ∷ rest)) (answer_options_ok usage off full is)
         (throws_ok x own set_of p h ok f rest (Call by usage arguments given) t is (full_throws usage off full) (thrown_ok x own set_of p h f rest by usage arguments given t))
 
   module _ (h : Heap) (ok : IsHeap (slot_count x) h) (f : Frame) (rest : List Frame) (by : By) (usage : LockUse) (arguments : Args) (given : Gives) (t : Top x own set_of p h f rest) (is : act_at x.app f.method f.index ≡ Some (Call by usage arguments given)) where
@@ -215,24 +212,24 @@ module _ (x : SubjectParts) (own : ℕ) (set_of : Set) (p : Premises x own set_o
         (thrown_ok x own set_of p h f rest by usage arguments given t)
 
     -- ---- lock calls
-    lock_ok : is_lock_call usage ≡ true → (i : ℕ) → receiver_in f arguments ≡ Some (LockRef i) → Each (IsInside x own set_of) (if is_owned (lock_at h i).owner then operation_options x p.at h f rest usage arguments i else Over Escape ∷ [])
-    lock_ok yes_lock i e =
+    lock_ok : (op : LockOp) → op_of usage ≡ Some op → (i : ℕ) → receiver_in f arguments ≡ Some (LockRef i) → Each (IsInside x own set_of) (if is_owned (lock_at h i).owner then operation_options x p.at h f rest op arguments i else Over Escape ∷ [])
+    lock_ok op does i e =
         let means = receiver_means (LockRef i) e in
-        let field = field_receiver (receiver_tag x own set_of p f arguments) i t.lo (length h.locks) h means (escapes_by_receiver (is_lock_call usage) row arguments yes_lock no_escape) in
+        let field = field_receiver (receiver_tag x own set_of p f arguments) i t.lo (length h.locks) h means (escapes_by_receiver (is_lock_call usage) row arguments (ap is_some does) no_escape) in
         let k = field.0 in
         let means_field : Means (tag.Field k) (LockRef i) t.lo (length h.locks) h = subst (λ (q : Tag). Means q (LockRef i) t.lo (length h.locks) h) field.1 means in
         let c : cell h k.0 ≡ Some i = cell_of_lock (cell h k.0) i means_field in
         let owned : is_owned (lock_at h i).owner ≡ true = ap is_owned (ok.cell k.0 i c) in
-        each_if (IsInside x own set_of) (is_owned (lock_at h i).owner) (operation_options x p.at h f rest usage arguments i) (Over Escape ∷ [])
-        (λ _. operation_ok x own set_of p h ok f rest by arguments given t k i field.1 c usage is)
+        each_if (IsInside x own set_of) (is_owned (lock_at h i).owner) (operation_options x p.at h f rest op arguments i) (Over Escape ∷ [])
+        (λ _. operation_ok x own set_of p h ok f rest by arguments given t k i field.1 c usage op does is)
         (λ loose. absurd (false≢true (sym loose ∙ owned)))
 
-    lock_call_ok : is_lock_call usage ≡ true → lacks_argument usage (register f (argument_of arguments)) ≡ false → (o : Option Value) → receiver_in f arguments ≡ o → Each (IsInside x own set_of) (lock_call_options x p.at h f rest usage arguments o)
-    lock_call_ok yes_lock full None e = (tt, tt)
-    lock_call_ok yes_lock full (Some Zero) e = null_ok (lock_receiver usage by yes_lock) e (λ mode. has_argument (register f (argument_of arguments)) (subst (λ (u : LockUse). lacks_argument u (register f (argument_of arguments)) ≡ false) mode full))
-    lock_call_ok yes_lock full (Some Nonzero) e = (tt, tt)
-    lock_call_ok yes_lock full (Some (Object type)) e = (tt, tt)
-    lock_call_ok yes_lock full (Some (LockRef i)) e = lock_ok yes_lock i e
+    lock_call_ok : (op : LockOp) → op_of usage ≡ Some op → lacks_argument op (register f (argument_of arguments)) ≡ false → (o : Option Value) → receiver_in f arguments ≡ o → Each (IsInside x own set_of) (lock_call_options x p.at h f rest op arguments o)
+    lock_call_ok op does full None e = (tt, tt)
+    lock_call_ok op does full (Some Zero) e = null_ok (lock_receiver usage by (ap is_some does)) e (mode_argument usage op (register f (argument_of arguments)) does full)
+    lock_call_ok op does full (Some Nonzero) e = (tt, tt)
+    lock_call_ok op does full (Some (Object type)) e = (tt, tt)
+    lock_call_ok op does full (Some (LockRef i)) e = lock_ok op does i e
 
     -- ---- other calls
     no_lock_argument : is_lock_call usage ≡ false → Mode ≡ usage → ⊥
@@ -264,14 +261,18 @@ module _ (x : SubjectParts) (own : ℕ) (set_of : Set) (p : Premises x own set_o
   outside_ok h ok f rest Direct usage arguments given t is off = receiver_ok h ok f rest Direct usage arguments given t is off (instance_receiver usage Direct refl) (receiver_in f arguments) refl
 
   module _ (h : Heap) (ok : IsHeap (slot_count x) h) (f : Frame) (rest : List Frame) (by : By) (usage : LockUse) (arguments : Args) (given : Gives) (t : Top x own set_of p h f rest) (is : act_at x.app f.method f.index ≡ Some (Call by usage arguments given)) where
-    pub call_ok : Each (IsInside x own set_of) (call_options x p.at h f rest by usage arguments given)
-    call_ok =
-        each_if (IsInside x own set_of) (is_lock_call usage) (if gives_lock f arguments 1 then Over Escape ∷ [] else full_lock_call_options x p.at h f rest usage arguments) (if gives_lock f arguments 0 then Over Escape ∷ [] else outside_options x p.at h f rest by usage given (receiver_in f arguments))
-        (λ yes_lock. each_if (IsInside x own set_of) (gives_lock f arguments 1) (Over Escape ∷ []) (full_lock_call_options x p.at h f rest usage arguments)
-        (λ g. absurd (false≢true (sym (escapes_by_argument (is_lock_call usage) (row_of x own set_of p f) arguments yes_lock (no_escape h ok f rest by usage arguments given t is)) ∙ given_lock h ok f rest by usage arguments given t is 1 g)))
-        (λ _. each_if (IsInside x own set_of) (lacks_argument usage (register f (argument_of arguments))) (Over Stuck ∷ []) (lock_call_options x p.at h f rest usage arguments (receiver_in f arguments))
+    by_op_ok : (o : Option LockOp) → op_of usage ≡ o → Each (IsInside x own set_of) (call_by_op x p.at h f rest by usage arguments given o)
+    by_op_ok (Some op) does =
+        each_if (IsInside x own set_of) (gives_lock f arguments 1) (Over Escape ∷ []) (full_lock_call_options x p.at h f rest op arguments)
+        (λ g. absurd (false≢true (sym (escapes_by_argument (is_lock_call usage) (row_of x own set_of p f) arguments (ap is_some does) (no_escape h ok f rest by usage arguments given t is)) ∙ given_lock h ok f rest by usage arguments given t is 1 g)))
+        (λ _. each_if (IsInside x own set_of) (lacks_argument op (register f (argument_of arguments))) (Over Stuck ∷ []) (lock_call_options x p.at h f rest op arguments (receiver_in f arguments))
         (λ _. (tt, tt))
-        (λ full. lock_call_ok h ok f rest by usage arguments given t is yes_lock full (receiver_in f arguments) refl)))
-        (λ off. each_if (IsInside x own set_of) (gives_lock f arguments 0) (Over Escape ∷ []) (outside_options x p.at h f rest by usage given (receiver_in f arguments))
+        (λ full. lock_call_ok h ok f rest by usage arguments given t is op does full (receiver_in f arguments) refl))
+    by_op_ok None does =
+        let off : is_lock_call usage ≡ false = ap is_some does in
+        each_if (IsInside x own set_of) (gives_lock f arguments 0) (Over Escape ∷ []) (outside_options x p.at h f rest by usage given (receiver_in f arguments))
         (λ g. absurd (false≢true (sym (escapes_outside (is_lock_call usage) (row_of x own set_of p f) arguments off (no_escape h ok f rest by usage arguments given t is)) ∙ given_lock h ok f rest by usage arguments given t is 0 g)))
-        (λ _. outside_ok h ok f rest by usage arguments given t is off))
+        (λ _. outside_ok h ok f rest by usage arguments given t is off)
+
+    pub call_ok : Each (IsInside x own set_of) (call_options x p.at h f rest by usage arguments given)
+    call_ok = by_op_ok (op_of usage) refl

@@ -1,6 +1,6 @@
 -- Lock calls keep the relation.
 use Rattle.std.proofs.Common.{◌≡◌, ℕ, zero, suc, pred, ◌≤◌, Bool, true, false, List, [], ◌∷◌, length, map, set, Option, Some, None, refl, sym, ap, ◌∙◌, arith, subst}
-use Rattle.std.specs.Prelude.{not, ◌==◌}
+use Rattle.std.specs.Prelude.{not, ◌==◌, IfSome}
 use Rattle.std.proofs.lemmas.Bool.{eqb-true, eqb-false}
 use Rattle.std.proofs.lemmas.List.{length-set}
 use Rattle.ns_base.specs.declared.rows.LockNo.{LockNo}
@@ -11,9 +11,11 @@ use Rattle.app_model.specs.declared.lock_use.LockUse.{LockUse}
 use Rattle.app_model.specs.declared.lock_use.LockUse.TheVariants.{Plain, Make, Acquire, Release, IsHeld, Mode, Wrong}
 use Rattle.act_model.specs.declared.act.By.{By}
 use Rattle.act_model.specs.declared.act.Gives.{Gives}
+use Rattle.act_model.specs.declared.act.LockOp.{LockOp}
+use Rattle.act_model.specs.declared.act.LockOp.TheVariants as ops
 use Rattle.act_model.specs.declared.act.Act.TheVariants.{Call}
 use Rattle.dalvik.specs.Calls.{receiver_of, argument_of}
-use Rattle.act_model.specs.Acts.{act_at}
+use Rattle.act_model.specs.Acts.{act_at, op_of}
 use Rattle.act_model.specs.Changes.{tag_in, thrown, held_change, call_change, result_tag, held_tag}
 use Rattle.flow_model.specs.Derived.{Set}
 use Rattle.app_model.specs.Sites.{site_at}
@@ -92,7 +94,7 @@ module _ (x : SubjectParts) (own : ℕ) (set_of : Set) (p : Premises x own set_o
     abbrev recounted : ℕ → Lock
     recounted n = record { owner = (lock_at h i).owner; count = n; counted = (lock_at h i).counted; site = (lock_at h i).site }
 
-    acquire_step : act_at x.app f.method f.index ≡ Some (Call by Acquire arguments given) → Each (IsInside x own set_of) (operation_options x p.at h f rest Acquire arguments i)
+    acquire_step : act_at x.app f.method f.index ≡ Some (Call by Acquire arguments given) → Each (IsInside x own set_of) (operation_options x p.at h f rest ops.Acquire arguments i)
     acquire_step is =
         let n = (lock_at h i).count in
         let y = recounted (suc n) in
@@ -118,7 +120,7 @@ module _ (x : SubjectParts) (own : ℕ) (set_of : Set) (p : Premises x own set_o
     release_by is true (suc n) b z = release_answers is n (rw (b, z) (release_ok (is_lost h k.0) n))
     release_by is false n b z = release_answers is 0 (rw (b, z) (release_all_ok (is_lost h k.0) n))
 
-    is_held_step : act_at x.app f.method f.index ≡ Some (Call by IsHeld arguments given) → Each (IsInside x own set_of) (operation_options x p.at h f rest IsHeld arguments i)
+    is_held_step : act_at x.app f.method f.index ≡ Some (Call by IsHeld arguments given) → Each (IsInside x own set_of) (operation_options x p.at h f rest ops.IsHeld arguments i)
     is_held_step is =
         let answer = held_value (lock_at h i).count in
         let table = is_held_ok (is_lost h k.0) (lock_at h i).count (lock_at h i).counted in
@@ -147,11 +149,15 @@ module _ (x : SubjectParts) (own : ℕ) (set_of : Set) (p : Premises x own set_o
         let tags = tagged_map row f.registers t.lo (length h.locks) h t.registers (call_change Mode (receiver_tag f arguments)) (length (with_lock y).locks) (with_lock y) (λ u w m. means_kept t.lo (length h.locks) (length (with_lock y).locks) h (with_lock y) (mode_keeps (not (is_null v))) u w m) in
         (answer_ok h (with_lock y) f rest by Mode arguments given Zero t is (changed_ok number h k.0 i y ok c refl) (longer y) (by_column y refl (mode_passes (argument_tag f arguments)) table) tags refl, tt)
 
-    pub operation_ok : (usage : LockUse) → act_at x.app f.method f.index ≡ Some (Call by usage arguments given) → Each (IsInside x own set_of) (operation_options x p.at h f rest usage arguments i)
-    operation_ok Acquire is = acquire_step is
-    operation_ok Release is = release_by is (lock_at h i).counted (lock_at h i).count refl refl
-    operation_ok IsHeld is = is_held_step is
-    operation_ok Mode is = mode_step is (register f (argument_of arguments)) refl
-    operation_ok Plain is = tt
-    operation_ok Make is = tt
-    operation_ok Wrong is = tt
+    -- ---- what a call does as a lock call
+    own_operation_ok : (usage : LockUse) → act_at x.app f.method f.index ≡ Some (Call by usage arguments given) → IfSome (op_of usage) (λ op. Each (IsInside x own set_of) (operation_options x p.at h f rest op arguments i))
+    own_operation_ok Acquire is = acquire_step is
+    own_operation_ok Release is = release_by is (lock_at h i).counted (lock_at h i).count refl refl
+    own_operation_ok IsHeld is = is_held_step is
+    own_operation_ok Mode is = mode_step is (register f (argument_of arguments)) refl
+    own_operation_ok Plain is = tt
+    own_operation_ok Make is = tt
+    own_operation_ok Wrong is = tt
+
+    pub operation_ok : (usage : LockUse) (op : LockOp) → op_of usage ≡ Some op → act_at x.app f.method f.index ≡ Some (Call by usage arguments given) → Each (IsInside x own set_of) (operation_options x p.at h f rest op arguments i)
+    operation_ok usage op e is = subst (λ (o : Option LockOp). IfSome o (λ q. Each (IsInside x own set_of) (operation_options x p.at h f rest q arguments i))) e (own_operation_ok usage is)

@@ -14,7 +14,7 @@ use Rattle.app_model.specs.declared.component.Edge.{Edge}
 use Rattle.app_model.specs.declared.rows.MethodRow.{MethodRow}
 use Rattle.app_model.specs.declared.rows.Named.{Named}
 use Rattle.app_model.specs.declared.lock_use.LockUse.{LockUse}
-use Rattle.app_model.specs.declared.lock_use.LockUse.TheVariants.{Plain, Make, Acquire, Release, IsHeld, Mode, Wrong}
+use Rattle.app_model.specs.declared.lock_use.LockUse.TheVariants.{Make}
 use Rattle.app_model.specs.Hierarchy.{may_be_sub}
 use Rattle.app_model.specs.Components.{ComponentParts, edges_of, edge_at, callback_at}
 use Rattle.app_model.specs.Masks.{any_below}
@@ -29,16 +29,17 @@ use Rattle.act_model.specs.declared.act.By.{By}
 use Rattle.act_model.specs.declared.act.By.TheVariants.{Virtual, Super, Direct, Static}
 use Rattle.act_model.specs.declared.act.Gives.{Gives}
 use Rattle.act_model.specs.declared.act.Gives.TheVariants as gives
+use Rattle.act_model.specs.declared.act.LockOp.{LockOp}
+use Rattle.act_model.specs.declared.act.LockOp.TheVariants.{Acquire, Release, IsHeld, Mode}
 use Rattle.act_model.specs.declared.act.Returned.{Returned}
 use Rattle.act_model.specs.declared.act.Returned.TheVariants as returned
 use Rattle.act_model.specs.declared.act.Throws.{Throws}
 use Rattle.act_model.specs.declared.act.Throws.TheVariants.{Never, ByChoice, WhereZero}
 use Rattle.act_model.specs.declared.act.Written.{Written}
 use Rattle.act_model.specs.declared.act.Written.TheVariants as written
-use Rattle.act_model.specs.Acts.{act_at}
+use Rattle.act_model.specs.Acts.{act_at, op_of}
 use Rattle.act_model.specs.Changes.{is_pair, put}
 use Rattle.act_model.specs.Entries.{entry_row}
-use Rattle.flow_model.specs.Passes.{is_lock_call}
 use Rattle.flow_model.specs.Rules.{clears}
 use Rattle.run_model.specs.Heaps.{Value, Zero, Nonzero, Object, LockRef, Heap, cell, cell_value, held_value, is_lock, is_null, is_owned, lock_at, with_new, with_count, with_mode, with_stored, with_null, with_cleared}
 
@@ -259,33 +260,25 @@ mode_options x at h f rest i None = Over Stuck ∷ []
 mode_options x at h f rest i (Some v) = answers x at (with_mode h i (not (is_null v))) f rest Zero ∷ []
 
 -- a lock call on lock i, which a field owns
-abbrev pub operation_options : SubjectParts → Callback → Heap → Frame → List Frame → LockUse → Args → ℕ → List State
+abbrev pub operation_options : SubjectParts → Callback → Heap → Frame → List Frame → LockOp → Args → ℕ → List State
 operation_options x at h f rest Acquire arguments i = answers x at (with_count h i (suc (lock_at h i).count)) f rest Zero ∷ []
 operation_options x at h f rest Release arguments i = release_options x at h f rest i (lock_at h i).counted (lock_at h i).count
 operation_options x at h f rest IsHeld arguments i = answers x at h f rest (held_value (lock_at h i).count) ∷ []
 operation_options x at h f rest Mode arguments i = mode_options x at h f rest i (register f (argument_of arguments))
-operation_options x at h f rest Plain arguments i = []
-operation_options x at h f rest Make arguments i = []
-operation_options x at h f rest Wrong arguments i = []
 
 -- a lock call by its receiver
-abbrev pub lock_call_options : SubjectParts → Callback → Heap → Frame → List Frame → LockUse → Args → Option Value → List State
-lock_call_options x at h f rest usage arguments None = Over Stuck ∷ []
-lock_call_options x at h f rest usage arguments (Some Zero) = throws_from x at h (f ∷ rest)
-lock_call_options x at h f rest usage arguments (Some Nonzero) = Over Stuck ∷ []
-lock_call_options x at h f rest usage arguments (Some (Object type)) = Over Stuck ∷ []
-lock_call_options x at h f rest usage arguments (Some (LockRef i)) =
-    if is_owned (lock_at h i).owner then operation_options x at h f rest usage arguments i else Over Escape ∷ []
+abbrev pub lock_call_options : SubjectParts → Callback → Heap → Frame → List Frame → LockOp → Args → Option Value → List State
+lock_call_options x at h f rest op arguments None = Over Stuck ∷ []
+lock_call_options x at h f rest op arguments (Some Zero) = throws_from x at h (f ∷ rest)
+lock_call_options x at h f rest op arguments (Some Nonzero) = Over Stuck ∷ []
+lock_call_options x at h f rest op arguments (Some (Object type)) = Over Stuck ∷ []
+lock_call_options x at h f rest op arguments (Some (LockRef i)) =
+    if is_owned (lock_at h i).owner then operation_options x at h f rest op arguments i else Over Escape ∷ []
 
 -- what another call answers: newWakeLock a new lock, every other one what the outside gives
 abbrev pub answer_options : SubjectParts → Callback → Heap → Frame → List Frame → LockUse → Gives → List State
 answer_options x at h f rest Make given = answers x at (with_new h (site_at x.app f.method f.index)) f rest (LockRef (length h.locks)) ∷ []
-answer_options x at h f rest Plain given = map (answers x at h f rest) (answers_of x.app given)
-answer_options x at h f rest Wrong given = map (answers x at h f rest) (answers_of x.app given)
-answer_options x at h f rest Acquire given = []
-answer_options x at h f rest Release given = []
-answer_options x at h f rest IsHeld given = []
-answer_options x at h f rest Mode given = []
+answer_options x at h f rest usage given = map (answers x at h f rest) (answers_of x.app given)
 
 -- an object of that type may be the receiver of a call of the named method; an array's methods take every object
 abbrev pub may_receive : AppParts → Option ℕ → Option Named → Bool
@@ -318,27 +311,27 @@ outside_options x at h f rest Super usage given receiver = receiver_options x at
 outside_options x at h f rest Direct usage given receiver = receiver_options x at h f rest Direct receiver (outside_answers x at h f rest usage given)
 
 -- setReferenceCounted without an argument
-abbrev pub lacks_argument : LockUse → Option Value → Bool
+abbrev pub lacks_argument : LockOp → Option Value → Bool
 lacks_argument Mode None = true
 lacks_argument Mode (Some v) = false
-lacks_argument Plain argument = false
-lacks_argument Make argument = false
 lacks_argument Acquire argument = false
 lacks_argument Release argument = false
 lacks_argument IsHeld argument = false
-lacks_argument Wrong argument = false
 
-abbrev pub full_lock_call_options : SubjectParts → Callback → Heap → Frame → List Frame → LockUse → Args → List State
-full_lock_call_options x at h f rest usage arguments =
-    if lacks_argument usage (register f (argument_of arguments))
-    then Over Stuck ∷ [] else lock_call_options x at h f rest usage arguments (receiver_in f arguments)
+abbrev pub full_lock_call_options : SubjectParts → Callback → Heap → Frame → List Frame → LockOp → Args → List State
+full_lock_call_options x at h f rest op arguments =
+    if lacks_argument op (register f (argument_of arguments))
+    then Over Stuck ∷ [] else lock_call_options x at h f rest op arguments (receiver_in f arguments)
 
 -- a lock may be the receiver of a lock call, and no other argument of a call
+abbrev pub call_by_op : SubjectParts → Callback → Heap → Frame → List Frame → By → LockUse → Args → Gives → Option LockOp → List State
+call_by_op x at h f rest by usage arguments given (Some op) =
+    if gives_lock f arguments 1 then Over Escape ∷ [] else full_lock_call_options x at h f rest op arguments
+call_by_op x at h f rest by usage arguments given None =
+    if gives_lock f arguments 0 then Over Escape ∷ [] else outside_options x at h f rest by usage given (receiver_in f arguments)
+
 abbrev pub call_options : SubjectParts → Callback → Heap → Frame → List Frame → By → LockUse → Args → Gives → List State
-call_options x at h f rest by usage arguments given =
-    if is_lock_call usage
-    then (if gives_lock f arguments 1 then Over Escape ∷ [] else full_lock_call_options x at h f rest usage arguments)
-    else (if gives_lock f arguments 0 then Over Escape ∷ [] else outside_options x at h f rest by usage given (receiver_in f arguments))
+call_options x at h f rest by usage arguments given = call_by_op x at h f rest by usage arguments given (op_of usage)
 
 -- an array of its arguments, in the result cell
 abbrev pub fill_options : SubjectParts → Callback → Heap → Frame → List Frame → Args → TypeNo → List State
