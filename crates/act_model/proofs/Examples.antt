@@ -1,6 +1,6 @@
 -- What each of the 218 opcodes does, by computation. No contract speaks of these: they show that every opcode of the page has
 -- its act, group by group.
-use Rattle.std.proofs.Common.{◌≡◌, ℕ, List, [], ◌∷◌, ◌++◌, length, map, replicate, Bool, true, false, Some, None, codes, refl}
+use Rattle.std.proofs.Common.{◌≡◌, ℕ, List, [], ◌∷◌, ◌++◌, length, map, replicate, true, false, None, codes, refl}
 use Rattle.std.specs.Prelude.{ℤ, pos, negsuc}
 use Rattle.std.specs.List.{range_with_len}
 use Rattle.dalvik.specs.declared.body.Place.{Place}

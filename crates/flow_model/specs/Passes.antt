@@ -63,9 +63,9 @@ throws_by l ByChoice row s = only s
 throws_by l (WhereZero r) row s = fails_null (nullness l (tag_in row r)) s
 
 -- ---- a test against zero: the branch that is taken where the value is zero, and the other one
-abbrev pub by_branch : (zero : Bool) → (if_zero if_nonzero : ℕ) → ℕ
-by_branch true if_zero if_nonzero = if_zero
-by_branch false if_zero if_nonzero = if_nonzero
+abbrev pub by_branch : (zero : Bool) → (first other : ℕ) → ℕ
+by_branch true first other = first
+by_branch false first other = other
 
 abbrev pub test_passes : ℕ → Tag → (zero : Bool) → ℕ → ℕ
 test_passes l Bot zero s = 0

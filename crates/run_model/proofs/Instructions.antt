@@ -64,13 +64,13 @@ not_zero passed image r s some mask = by (passed == 0) refl
     by false off = mask
 
 -- the branch of a test is the one of its zero branch exactly where the value is zero
-branch_is : (if_zero : ℕ) (b : Bool) → (branch if_zero b == if_zero) ≡ b
-branch_is if_zero true = eq-eqb if_zero if_zero refl
-branch_is if_zero false = other (if_zero == 0) refl
+branch_is : (way : ℕ) (b : Bool) → (branch way b == way) ≡ b
+branch_is way true = eq-eqb way way refl
+branch_is way false = other (way == 0) refl
   where
-    other : (b : Bool) → (if_zero == 0) ≡ b → ((if b then 1 else 0) == if_zero) ≡ false
-    other true is = ne_eqb 1 if_zero (λ e. omega (arith, e, eqb-true if_zero 0 is))
-    other false off = ne_eqb 0 if_zero (λ e. eqb-false if_zero 0 off (sym e))
+    other : (b : Bool) → (way == 0) ≡ b → ((if b then 1 else 0) == way) ≡ false
+    other true is = ne_eqb 1 way (λ e. omega (arith, e, eqb-true way 0 is))
+    other false off = ne_eqb 0 way (λ e. eqb-false way 0 off (sym e))
 
 module _ (x : SubjectParts) (own : ℕ) (set_of : Set) (p : Premises x own set_of) where
   abbrev number : ℕ
@@ -142,12 +142,12 @@ module _ (x : SubjectParts) (own : ℕ) (set_of : Set) (p : Premises x own set_o
         (each_map_at (IsInside x own set_of) (λ i. Running p.at h (moved f i f.registers ∷ rest)) (successors_of (place_at x.app f.method f.index))
         (λ k i there. goes_there Go k i is (only_status h own) t.registers (place_successors (place_at x.app f.method f.index) k i there)))
 
-    test_branch : (value if_zero : ℕ) → act_at x.app f.method f.index ≡ Some (Test value if_zero) → (o : Option Value) → register f value ≡ o → Each (IsInside x own set_of) (test_options x p.at h f rest if_zero o)
-    test_branch value if_zero is None there = (tt, tt)
-    test_branch value if_zero is (Some v) there =
-        let k = branch if_zero (is_null v) in
-        let mask = subst (λ (b : Bool). in_mask (test_passes own (tag_in row value) b now) now ≡ true) (sym (branch_is if_zero (is_null v))) (test_ok own t.lo (length h.locks) h (tag_in row value) v (register_means value v there)) in
-        (quiet_ok x own set_of p h ok f rest f.registers (Test value if_zero) k t is mask t.registers, tt)
+    test_branch : (value way : ℕ) → act_at x.app f.method f.index ≡ Some (Test value way) → (o : Option Value) → register f value ≡ o → Each (IsInside x own set_of) (test_options x p.at h f rest way o)
+    test_branch value way is None there = (tt, tt)
+    test_branch value way is (Some v) there =
+        let k = branch way (is_null v) in
+        let mask = subst (λ (b : Bool). in_mask (test_passes own (tag_in row value) b now) now ≡ true) (sym (branch_is way (is_null v))) (test_ok own t.lo (length h.locks) h (tag_in row value) v (register_means value v there)) in
+        (quiet_ok x own set_of p h ok f rest f.registers (Test value way) k t is mask t.registers, tt)
 
     -- ---- copies and writes
     copy_ok : (to from : ℕ) (wide : Bool) → act_at x.app f.method f.index ≡ Some (Copy to from wide) → (o o' : Option Value) → register f from ≡ o → register f (from + 1) ≡ o' → Each (IsInside x own set_of) (copy_options x p.at h f rest to wide o o')
@@ -365,7 +365,7 @@ module _ (x : SubjectParts) (own : ℕ) (set_of : Set) (p : Premises x own set_o
     pub act_ok : (o : Option Act) → act_at x.app f.method f.index ≡ o → Each (IsInside x own set_of) (act_options x p.at h f rest o)
     act_ok None is = (tt, tt)
     act_ok (Some Go) is = go_ok is
-    act_ok (Some (Test value if_zero)) is = test_branch value if_zero is (register f value) refl
+    act_ok (Some (Test value way)) is = test_branch value way is (register f value) refl
     act_ok (Some (Copy to from wide)) is = copy_ok to from wide is (register f from) (register f (from + 1)) refl refl
     act_ok (Some (TakeResult to)) is = take_ok to is (register f (result_index f)) refl
     act_ok (Some (Write to what when)) is = written_ok_by to what when is

@@ -94,7 +94,7 @@ module _ (x : SubjectParts) (own : ℕ) (set : Set) (p : Premises x own set) whe
 
   throwing : (a : Act) (row : List Tag) (out : Bool) (s t : ℕ) → in_mask (throws own a row out s) t ≡ true → can_throw a ≡ true
   throwing Go row out s t mask = absurd (IsIn-zero t mask)
-  throwing (Test value if_zero) row out s t mask = absurd (IsIn-zero t mask)
+  throwing (Test value way) row out s t mask = absurd (IsIn-zero t mask)
   throwing (Copy to from wide) row out s t mask = absurd (IsIn-zero t mask)
   throwing (TakeResult to) row out s t mask = absurd (IsIn-zero t mask)
   throwing (Write to what when) row out s t mask = throwing_by when row s t mask

@@ -170,13 +170,13 @@ go_options x at h f rest =
     stuck_if_none (map (λ i. Running at h (moved f i f.registers ∷ rest)) (successors_of (place_at x.app f.method f.index)))
 
 -- the branch of a test by its value
-abbrev pub branch : (if_zero : ℕ) → (is_zero : Bool) → ℕ
-branch if_zero true = if_zero
-branch if_zero false = if if_zero == 0 then 1 else 0
+abbrev pub branch : (way : ℕ) → (is_zero : Bool) → ℕ
+branch way true = way
+branch way false = if way == 0 then 1 else 0
 
 abbrev pub test_options : SubjectParts → Callback → Heap → Frame → List Frame → ℕ → Option Value → List State
-test_options x at h f rest if_zero None = Over Stuck ∷ []
-test_options x at h f rest if_zero (Some v) = goes_on x at h f rest f.registers (branch if_zero (is_null v)) ∷ []
+test_options x at h f rest way None = Over Stuck ∷ []
+test_options x at h f rest way (Some v) = goes_on x at h f rest f.registers (branch way (is_null v)) ∷ []
 
 -- a copy, of a pair too: both are read before either is written
 abbrev pub copy_options : SubjectParts → Callback → Heap → Frame → List Frame → ℕ → (wide : Bool) → (first second : Option Value) → List State
@@ -342,7 +342,7 @@ fill_options x at h f rest arguments kind =
 abbrev pub act_options : SubjectParts → Callback → Heap → Frame → List Frame → Option Act → List State
 act_options x at h f rest None = Over Stuck ∷ []
 act_options x at h f rest (Some Go) = go_options x at h f rest
-act_options x at h f rest (Some (Test value if_zero)) = test_options x at h f rest if_zero (register f value)
+act_options x at h f rest (Some (Test value way)) = test_options x at h f rest way (register f value)
 act_options x at h f rest (Some (Copy to from wide)) = copy_options x at h f rest to wide (register f from) (register f (from + 1))
 act_options x at h f rest (Some (TakeResult to)) = take_options x at h f rest to (register f (result_index f))
 act_options x at h f rest (Some (Write to what throws)) =
