@@ -1,2 +1,6 @@
 pub mod Lines
 pub mod Rows
+pub mod Lists
+pub mod Meets
+pub mod Beside
+pub mod Climbs

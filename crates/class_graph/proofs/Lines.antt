@@ -6,7 +6,7 @@ use Rattle.ns_base.specs.declared.rows.TypeNo.{TypeNo}
 use Rattle.app_model.specs.Hierarchy.{nearest, or_else}
 use Rattle.app_model.specs.Parts.{ClassParts}
 use Rattle.class_graph.specs.Graph.{GraphParts, line_from, superclass_by}
-use Rattle.class_graph.specs.Walks.{met_from, met_next}
+use Rattle.class_graph.specs.Walks.{WalkParts, met_from, met_next, with_kinds}
 
 -- a class, or the classes above it
 pub any-step : (test : ℕ → Bool) (graph : GraphParts) (n i c : ℕ) → i < n
@@ -26,3 +26,7 @@ walk-step classes n i kinds below = let e : n - i ≡ suc (n - (i + 1)) = omega 
 pub walk_past : (classes : List ClassParts) (n i : ℕ) (kinds : List TypeNo) → length kinds ≤ i → met_from classes n i kinds ≡ kinds
 walk_past classes zero i kinds past = refl
 walk_past classes (suc n) i kinds past = ap (λ t. met_from classes n (i + 1) (met_next classes kinds t)) (slice_get_past kinds i past) ∙ walk_past classes n (i + 1) kinds (omega arith)
+
+pub walk_done : (classes : List ClassParts) (n i : ℕ) (old new : WalkParts) (end : List TypeNo) → new ≡ with_kinds old new.kinds → length new.kinds ≤ i
+    → met_from classes n i new.kinds ≡ end → new ≡ with_kinds old end
+walk_done classes n i old new end kept past is = kept ∙ ap (with_kinds old) (sym (walk_past classes n i new.kinds past) ∙ is)

@@ -111,7 +111,9 @@ fn walk_beside(alloc: Global, app: &App, walk: &mut Walk, class: ClassNo) -> Res
     requires class { class.0 < length app.now.classes }
     requires types { walk.old.types ≡ length app.now.types }
     requires turn { walk.old.turn + 1 < 2 ^ 64 }
-    ensures { IfOk result (λ done. (row : ClassParts) → slice_get app.now.classes class.0 ≡ Some row → walk.new ≡ record { types = walk.old.types; turn = walk.old.turn + 1; kinds = beside app.now row }) }
+    ensures kinds { IfOk result (λ done. (row : ClassParts) → slice_get app.now.classes class.0 ≡ Some row → walk.new.kinds ≡ beside app.now row) }
+    ensures types { IfOk result (λ done. walk.new.types ≡ walk.old.types) }
+    ensures turn { IfOk result (λ done. walk.new.turn ≡ walk.old.turn + 1) }
 {
     walk.restart();
     meet_all(alloc, walk, &app.class(class).interfaces)?;

@@ -24,7 +24,8 @@ fn add_method(app: &App, members: &mut Members, method: MethodNo) -> Result<(), 
     if row.flags & access::ABSTRACT != 0 {
         return Ok(());
     }
-    members.add(row.class, Member { name: row.name, second: row.proto.0, number: method.0 })
+    members.add(row.class, Member { name: row.name, second: row.proto.0, number: method.0 })?;
+    Ok(())
 }
 
 fn method_rows(alloc: Global, app: &App) -> Result<Members, AllocError>
@@ -45,7 +46,8 @@ fn add_field(app: &App, members: &mut Members, field: FieldNo) -> Result<(), All
     ensures now { IfOk result (λ done. AreFields app.now (field.0 + 1) members.new) }
 {
     let row = app.field(field);
-    members.add(row.class, Member { name: row.name, second: row.kind.0, number: field.0 })
+    members.add(row.class, Member { name: row.name, second: row.kind.0, number: field.0 })?;
+    Ok(())
 }
 
 fn field_rows(alloc: Global, app: &App) -> Result<Members, AllocError>
