@@ -4,3 +4,4 @@ pub mod Lists
 pub mod Meets
 pub mod Beside
 pub mod Climbs
+pub mod Tells
