@@ -1,5 +1,5 @@
 -- A walk from the interfaces of a class meets them and all types above them, and no others.
-use Rattle.std.proofs.Common.{◌≡◌, ℕ, zero, suc, ◌+◌, ◌<◌, ◌≤◌, Bool, true, false, List, [], ◌∷◌, length, refl, sym, ap, ◌∙◌, subst, inl, inr, ⊎_elim, arith, eqb, Contains, Option, Some, None, slice_get}
+use Rattle.std.proofs.Common.{◌≡◌, ℕ, zero, suc, ◌+◌, ◌<◌, ◌≤◌, true, List, [], length, refl, sym, ◌∙◌, subst, inl, inr, ⊎_elim, arith, eqb, Contains, Option, Some, None, slice_get}
 use Rattle.std.specs.Prelude.{◌⊎◌, ◌↔◌}
 use Rattle.std.specs.List.{IsDistinct}
 use Rattle.std.proofs.lemmas.Bool.{cases_lt, false≢true}
@@ -144,6 +144,7 @@ module _ (app : AppParts) (sound : IsSoundApp app) where
 
     pub beside_told : (u : ℕ) → Contains classes class → (has_kind (beside app class) u ≡ true) ↔ IsBeside classes class u
     unfolding beside
-    beside_told u there =
-        (λ h. ⊎_elim (such u) (λ p. p) ((ends there).grown.only u h),
-        λ b. ⊎_elim (λ e. rw (← e) (inside there b.0 b.1)) (λ a. reaches all (ends there).closed b.0.0 u a (inside there b.0 b.1)) b.2)
+    beside_told u there = (
+      λ h. ⊎_elim (such u) (λ p. p) ((ends there).grown.only u h),
+      λ b. ⊎_elim (λ e. rw (← e) (inside there b.0 b.1)) (λ a. reaches all (ends there).closed b.0.0 u a (inside there b.0 b.1)) b.2,
+    )

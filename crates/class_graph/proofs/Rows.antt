@@ -1,5 +1,5 @@
 -- Rows of members.
-use Rattle.std.proofs.Common.{◌≡◌, ◌≢◌, ℕ, zero, suc, ◌+◌, ◌<◌, ◌≤◌, ◌++◌, ◌&&◌, Bool, true, false, cond, List, [], ◌∷◌, length, get_or, set, map, take, replicate, refl, sym, ap, ap₂, ◌∙◌, ⊎_elim, arith, eqb, eq-eqb, Option, Some, None, position, slice_get}
+use Rattle.std.proofs.Common.{◌≡◌, ◌≢◌, ℕ, suc, ◌+◌, ◌<◌, ◌≤◌, ◌++◌, ◌&&◌, Bool, true, false, cond, List, [], ◌∷◌, length, get_or, set, map, take, replicate, refl, sym, ap, ap₂, ◌∙◌, ⊎_elim, arith, eqb, eq-eqb, Option, Some, None, position, slice_get}
 use Rattle.std.specs.Prelude.{not}
 use Rattle.std.specs.List.{position_from}
 use Rattle.std.specs.declared.vec.Vec.{Vec}

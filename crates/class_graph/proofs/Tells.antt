@@ -1,5 +1,5 @@
 -- What was built answers as the application's files say.
-use Rattle.std.proofs.Common.{◌≡◌, ℕ, zero, suc, ◌+◌, ◌<◌, ◌≤◌, ◌||◌, ◌&&◌, Bool, true, false, List, [], ◌∷◌, length, map, take, refl, sym, ap, ap₂, ◌∙◌, subst, inl, inr, ⊎_elim, arith, eqb, eq-eqb, Contains, Option, Some, None, option_map, position, slice_get}
+use Rattle.std.proofs.Common.{◌≡◌, ℕ, zero, suc, ◌<◌, ◌≤◌, ◌||◌, ◌&&◌, Bool, true, false, List, [], ◌∷◌, length, refl, sym, ap, ap₂, ◌∙◌, inl, inr, ⊎_elim, arith, eqb, eq-eqb, Contains, Option, Some, None, option_map, position, slice_get}
 use Rattle.std.specs.Prelude.{◌⊎◌, is_none}
 use Rattle.std.specs.List.{list_any, range_with_len}
 use Rattle.std.proofs.lemmas.Bool.{and_parts, cases_lt, eqb-true, false≢true, or_cases}
@@ -20,7 +20,7 @@ use Rattle.class_graph.specs.Graph.{GraphParts, class_by, class_in, class_of_par
 use Rattle.class_graph.specs.Walks.{beside, has_kind}
 use Rattle.class_graph.proofs.Beside.{ancestor_below}
 use Rattle.class_graph.proofs.Climbs.{ancestor_found, found_ancestor}
-use Rattle.class_graph.proofs.Lists.{any_found, any_there, class_known, kind_told, or_left, or_right, read_of, same_test, superclass_told, there_at, told_kind, told_superclass}
+use Rattle.class_graph.proofs.Lists.{any_found, any_there, class_known, kind_told, or_left, or_right, same_test, superclass_told, told_kind, told_superclass}
 
 nearest_same : (f g : ℕ → Option ℕ) (xs : List ℕ) → ((c : ℕ) → f c ≡ g c) → nearest f xs ≡ nearest g xs
 nearest_same f g [] h = refl

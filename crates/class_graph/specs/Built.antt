@@ -1,5 +1,5 @@
 -- What the parts of a class hierarchy hold.
-use Rattle.std.specs.Prelude.{ℕ, ◌≡◌, ◌<◌, ◌||◌, ◌&&◌, ◌==◌, Bool, false, List, length, map, take, Option, Some, None, option_map, position, slice_get, not}
+use Rattle.std.specs.Prelude.{ℕ, ◌≡◌, ◌||◌, ◌&&◌, ◌==◌, Bool, false, List, length, map, take, Option, Some, None, option_map, position, slice_get, not}
 use Rattle.std.specs.List.{list_any}
 use Rattle.ns_base.specs.declared.rows.ClassNo.{ClassNo}
 use Rattle.ns_base.specs.declared.rows.TypeNo.{TypeNo}

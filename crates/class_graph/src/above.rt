@@ -121,7 +121,12 @@ fn walk_beside(alloc: Global, app: &App, walk: &mut Walk, class: ClassNo) -> Res
 }
 
 #[tactic(auto, unfolding(crate::specs::Built::above_of))]
-fn above_row(alloc: Global, app: &App, walk: &mut Walk, class: ClassNo) -> Result<AboveRow, AllocError>
+fn above_row(
+    alloc: Global,
+    app: &App,
+    walk: &mut Walk,
+    class: ClassNo,
+) -> Result<AboveRow, AllocError>
     requires class { class.0 < length app.now.classes }
     requires types { walk.old.types ≡ length app.now.types }
     requires turn { walk.old.turn + 1 < 2 ^ 64 }
@@ -133,7 +138,11 @@ fn above_row(alloc: Global, app: &App, walk: &mut Walk, class: ClassNo) -> Resul
     let kinds = walk.kinds().to_vec(alloc)?;
     let parent = app.class(class).parent;
     let unknown = is_unknown_parent(app, parent) || has_unknown(app, &kinds);
-    Ok(AboveRow { parent, kinds, unknown })
+    Ok(AboveRow {
+        parent,
+        kinds,
+        unknown,
+    })
 }
 
 pub(crate) fn above_rows(alloc: Global, app: &App) -> Result<Vec<AboveRow>, AllocError>

@@ -24,7 +24,14 @@ fn add_method(app: &App, members: &mut Members, method: MethodNo) -> Result<(), 
     if row.flags & access::ABSTRACT != 0 {
         return Ok(());
     }
-    members.add(row.class, Member { name: row.name, second: row.proto.0, number: method.0 })?;
+    members.add(
+        row.class,
+        Member {
+            name: row.name,
+            second: row.proto.0,
+            number: method.0,
+        },
+    )?;
     Ok(())
 }
 
@@ -46,7 +53,14 @@ fn add_field(app: &App, members: &mut Members, field: FieldNo) -> Result<(), All
     ensures now { IfOk result (λ done. AreFields app.now (field.0 + 1) members.new) }
 {
     let row = app.field(field);
-    members.add(row.class, Member { name: row.name, second: row.kind.0, number: field.0 })?;
+    members.add(
+        row.class,
+        Member {
+            name: row.name,
+            second: row.kind.0,
+            number: field.0,
+        },
+    )?;
     Ok(())
 }
 
@@ -67,7 +81,12 @@ fn build_parts(alloc: Global, app: &App) -> Result<ClassGraph, AllocError>
     let above = above_rows(alloc, app)?;
     let methods = method_rows(alloc, app)?;
     let fields = field_rows(alloc, app)?;
-    Ok(ClassGraph { kinds, above, methods, fields })
+    Ok(ClassGraph {
+        kinds,
+        above,
+        methods,
+        fields,
+    })
 }
 
 /// The class hierarchy of an application.

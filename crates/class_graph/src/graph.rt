@@ -180,7 +180,13 @@ impl ClassGraph {
         self.sub(kind, of) || (self.class_of_type(of).is_none() && self.unknown_above(kind))
     }
 
-    fn nearest(&self, members: &Members, from: Option<ClassNo>, name: NameNo, second: u32) -> Option<u32>
+    fn nearest(
+        &self,
+        members: &Members,
+        from: Option<ClassNo>,
+        name: NameNo,
+        second: u32,
+    ) -> Option<u32>
         ensures { result ≡ nearest (member_in members.now name.0 second) (line_by self.now (option_map (λ (c : ClassNo). c.0) from)) }
     {
         let mut class = from;

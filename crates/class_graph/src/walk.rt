@@ -32,7 +32,11 @@ impl Walk {
         ensures { IfOk result (λ walk. walk ≡ record { types = types; turn = 1; kinds = [] }) }
     {
         let marks = vec![in alloc; 0; types]?;
-        Ok(Walk { marks, turn: 1, kinds: Vec::new(alloc) })
+        Ok(Walk {
+            marks,
+            turn: 1,
+            kinds: Vec::new(alloc),
+        })
     }
 
     /// Begins the next walk.
