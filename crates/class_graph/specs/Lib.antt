@@ -1,0 +1,5 @@
+pub mod Answers
+pub mod Graph
+pub mod Belongs
+pub mod Walks
+pub mod Built
