@@ -1,5 +1,5 @@
 -- What was built answers as the application's files say.
-use Rattle.std.proofs.Common.{◌≡◌, ℕ, zero, suc, ◌<◌, ◌≤◌, ◌||◌, ◌&&◌, Bool, true, false, List, [], ◌∷◌, length, refl, sym, ap, ap₂, ◌∙◌, inl, inr, ⊎_elim, arith, eqb, eq-eqb, Contains, Option, Some, None, option_map, position, slice_get}
+use Rattle.std.proofs.Common.{◌≡◌, ℕ, zero, suc, ◌<◌, ◌≤◌, ◌||◌, ◌&&◌, Bool, true, false, List, [], ◌∷◌, length, refl, sym, ap, ap₂, ◌∙◌, inl, inr, ⊎_elim, arith, eqb, eq-eqb, Contains, Option, Some, None, option_map, position, slice_get, get_or}
 use Rattle.std.specs.Prelude.{◌⊎◌, is_none}
 use Rattle.std.specs.List.{list_any, range_with_len}
 use Rattle.std.proofs.lemmas.Bool.{and_parts, cases_lt, eqb-true, false≢true, or_cases}
@@ -12,7 +12,7 @@ use Rattle.app_model.specs.Hierarchy.{class_of_parent, class_of_type, field_in, 
 use Rattle.app_model.specs.Parts.{AppParts, ClassParts}
 use Rattle.app_model.specs.Sound.{IsSoundApp}
 use Rattle.app_model.proofs.HierarchyLaws.{subtypes_told}
-use Rattle.app_model.proofs.TypeIndex.{no_class}
+use Rattle.app_model.proofs.TypeIndex.{class_none}
 use Rattle.class_graph.specs.declared.kinds.KindRow.{KindRow}
 use Rattle.class_graph.specs.Belongs.{IsClassGraph}
 use Rattle.class_graph.specs.Built.{IsBuilt, above_of, has_unknown, is_unknown_parent}
@@ -21,6 +21,13 @@ use Rattle.class_graph.specs.Walks.{beside, has_kind}
 use Rattle.class_graph.proofs.Beside.{ancestor_below}
 use Rattle.class_graph.proofs.Climbs.{ancestor_found, found_ancestor}
 use Rattle.class_graph.proofs.Lists.{any_found, any_there, class_known, kind_told, or_left, or_right, same_test, superclass_told, told_kind, told_superclass}
+
+-- no class has a type that is not there
+no_class : (app : AppParts) (t : ℕ) → IsSoundApp app → length app.types ≤ t → None ≡ class_of_type app.classes t
+no_class app t sound past =
+    class_none app.classes t (λ (k : ℕ) (d : ClassParts) (below : k < length app.classes).
+    let inside = (sound.ranges.classes k d below).name in
+    λ (same : (get_or app.classes k d).name.0 ≡ t). omega (arith, inside, past, same))
 
 nearest_same : (f g : ℕ → Option ℕ) (xs : List ℕ) → ((c : ℕ) → f c ≡ g c) → nearest f xs ≡ nearest g xs
 nearest_same f g [] h = refl
