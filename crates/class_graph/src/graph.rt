@@ -48,7 +48,6 @@ impl ClassGraph {
     }
 
     /// Whether an object of type `kind` may be one of type `of`, as far as the files say.
-    #[tactic(auto, unfolding(crate::specs::Graph::may_be_by))]
     pub fn maybe_sub(&self, kind: TypeNo, of: TypeNo) -> bool
         ensures { (app : AppParts) → IsClassGraph app self.now → result ≡ may_be_sub app (Some kind.0) of.0 }
     {
