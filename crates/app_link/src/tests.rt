@@ -419,11 +419,11 @@ fn three_files_are_linked(rt: HostRuntime) -> Result<(), Fail> {
     let rows = check_forms(rt.alloc(), &THREE)
         .ok()
         .ok_or("the files link")?;
-    assert_eq!(rt; rows.classes.len(), 3);
-    let [_, _, last] = rows.types.as_slice() else {
-        return Err("three types".into());
+    let [first, second, third] = rows.classes.as_slice() else {
+        return Err("three classes".into());
     };
-    assert_eq!(rt; last.as_slice(), b"LC;".as_slice());
+    assert_eq!(rt; (first.name, first.parent), (TypeNo(0), Some(TypeNo(1))));
+    assert_eq!(rt; (second.name, third.name), (TypeNo(2), TypeNo(1)));
     Ok(())
 }
 

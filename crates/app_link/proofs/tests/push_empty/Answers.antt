@@ -1,4 +1,4 @@
-use Rattle.std.proofs.Common.{[], ◌∷◌, List, sym, subst, arith, rules}
+use Rattle.std.proofs.Common.{[], ◌∷◌, List, sym, subst, rules}
 use Rattle.std.specs.List.{All}
 use Rattle.std.proofs.lemmas.List.Elements.{All-append, All-cons, All-nil}
 use Rattle.dex_file.specs.Content.{FileContent}
