@@ -98,7 +98,7 @@ pub data Flow (app : AppParts) (graph : GraphParts) (list : List ComponentParts)
       → Flow app graph list gone table m j (after (site_at app m i) a (row_at table m i))
   back_from_outside : {m j : ℕ} (i k : ℕ) (a : Act) → act_at app m i ≡ Some a → is_call a ≡ true → outside_at graph m i ≡ true → successor_at app m i k ≡ Some j → IsLive (row_at table m i)
       → Flow app graph list gone table m j (after (site_at app m i) a (row_at table m i))
-  -- thrown to a handler; by a call, where it leads outside
+  -- thrown to a handler; by a call, where its receiver is null or it leads outside
   throws : {m j : ℕ} (i k : ℕ) (a : Act) → act_at app m i ≡ Some a → can_throw a ≡ true → handler_at app m i k ≡ Some j → IsLive (row_at table m i)
       → Flow app graph list gone table m j (thrown a (row_at table m i))
   -- arguments into a callee

@@ -9,6 +9,7 @@ use std::alloc::{AllocError, Global};
 use std::fs;
 use std::test::Fail;
 
+mod hierarchy;
 mod layout;
 mod rows;
 mod sample;
