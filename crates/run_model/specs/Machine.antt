@@ -129,12 +129,10 @@ register f r = slice_get f.registers r
 abbrev pub result_index : Frame → ℕ
 result_index f = pred (length f.registers)
 
-abbrev pub moved : Frame → ℕ → List Value → Frame
-moved f i registers = record { method = f.method; index = i; registers = registers }
-
 -- at instruction i of the same method
 abbrev pub moves : Here → List Value → ℕ → State
-moves here registers i = Running here.callback here.heap (moved here.frame i registers ∷ here.rest)
+moves here registers i =
+    Running here.callback here.heap (record { method = here.frame.method; index = i; registers = registers } ∷ here.rest)
 
 abbrev pub goes_to : Here → List Value → Option ℕ → State
 goes_to here registers None = Over Stuck
@@ -188,7 +186,8 @@ successors_of (Some place) = place.successors
 
 abbrev pub go_options : Here → List State
 go_options here =
-    stuck_if_none (map (moves here here.frame.registers) (successors_of (place_at here.subject.app here.frame.method here.frame.index)))
+    stuck_if_none
+    (map (moves here here.frame.registers) (successors_of (place_at here.subject.app here.frame.method here.frame.index)))
 
 -- the branch of a test by its value
 abbrev pub branch : (way : ℕ) → (is_zero : Bool) → ℕ
@@ -222,7 +221,8 @@ store_options here l Zero = goes_on (with_heap here (with_null here.heap l)) her
 store_options here l Nonzero = Over Stuck ∷ []
 store_options here l (Object type) = Over Stuck ∷ []
 store_options here l (LockRef i) =
-    if is_owned (lock_at here.heap i).owner then Over Escape ∷ [] else goes_on (with_heap here (with_stored here.heap l i)) here.frame.registers 0 ∷ []
+    if is_owned (lock_at here.heap i).owner
+    then Over Escape ∷ [] else goes_on (with_heap here (with_stored here.heap l i)) here.frame.registers 0 ∷ []
 
 abbrev pub write_options : Here → LockNo → Option Value → List State
 write_options here l None = Over Stuck ∷ []
@@ -285,7 +285,8 @@ mode_options here i (Some v) = answers (with_heap here (with_mode here.heap i (n
 
 -- a lock call on lock i, which a field owns
 abbrev pub operation_options : Here → LockOp → Args → ℕ → List State
-operation_options here Acquire arguments i = answers (with_heap here (with_count here.heap i (suc (lock_at here.heap i).count))) Zero ∷ []
+operation_options here Acquire arguments i =
+    answers (with_heap here (with_count here.heap i (suc (lock_at here.heap i).count))) Zero ∷ []
 operation_options here Release arguments i = release_options here i (lock_at here.heap i).counted (lock_at here.heap i).count
 operation_options here IsHeld arguments i = answers here (held_value (lock_at here.heap i).count) ∷ []
 operation_options here Mode arguments i = mode_options here i (register here.frame (argument_of arguments))
@@ -302,7 +303,8 @@ lock_call_options here op arguments (Some (LockRef i)) =
 -- what another call answers: newWakeLock a new lock, every other one what the outside gives
 abbrev pub answer_options : Here → LockUse → Gives → List State
 answer_options here Make given =
-    answers (with_heap here (with_new here.heap (site_at here.subject.app here.frame.method here.frame.index))) (LockRef (length here.heap.locks)) ∷ []
+    answers (with_heap here (with_new here.heap (site_at here.subject.app here.frame.method here.frame.index)))
+    (LockRef (length here.heap.locks)) ∷ []
 answer_options here usage given = map (answers here) (answers_of here.subject.app given)
 
 -- an object of that type may be the receiver of a call of the named method; an array's methods take every object
@@ -316,7 +318,8 @@ outside_answers here usage given = answer_options here usage given ++ throws_fro
 -- an object as the receiver: of a virtual call it is one of the named class
 abbrev pub object_options : Here → By → Option ℕ → List State → List State
 object_options here Virtual type normal =
-    if may_receive here.subject.app type (named_at here.subject.app here.frame.method here.frame.index) then normal else Over Stuck ∷ []
+    if may_receive here.subject.app type (named_at here.subject.app here.frame.method here.frame.index)
+    then normal else Over Stuck ∷ []
 object_options here Super type normal = normal
 object_options here Direct type normal = normal
 object_options here Static type normal = normal
@@ -351,9 +354,11 @@ full_lock_call_options here op arguments =
 -- a lock may be the receiver of a lock call, and no other argument of a call
 abbrev pub call_by_op : Here → By → LockUse → Args → Gives → Option LockOp → List State
 call_by_op here by usage arguments given (Some op) =
-    if gives_lock here.frame arguments 1 then Over Escape ∷ [] else full_lock_call_options here op arguments
+    if gives_lock here.frame arguments 1
+    then Over Escape ∷ [] else full_lock_call_options here op arguments
 call_by_op here by usage arguments given None =
-    if gives_lock here.frame arguments 0 then Over Escape ∷ [] else outside_options here by usage given (receiver_in here.frame arguments)
+    if gives_lock here.frame arguments 0
+    then Over Escape ∷ [] else outside_options here by usage given (receiver_in here.frame arguments)
 
 abbrev pub call_options : Here → By → LockUse → Args → Gives → List State
 call_options here by usage arguments given = call_by_op here by usage arguments given (op_of usage)
@@ -368,7 +373,8 @@ abbrev pub act_options : Here → Option Act → List State
 act_options here None = Over Stuck ∷ []
 act_options here (Some Go) = go_options here
 act_options here (Some (Test value way)) = test_options here way (register here.frame value)
-act_options here (Some (Copy to from wide)) = copy_options here to wide (register here.frame from) (register here.frame (from + 1))
+act_options here (Some (Copy to from wide)) =
+    copy_options here to wide (register here.frame from) (register here.frame (from + 1))
 act_options here (Some (TakeResult to)) = take_options here to (register here.frame (result_index here.frame))
 act_options here (Some (Write to what throws)) =
     throws_options here throws (written_options here to (is_pair what) (written_values here.subject.app what))
