@@ -25,7 +25,7 @@ use Rattle.app_model.specs.Subject.{SubjectParts, outside_at, row_at, slot_count
 use Rattle.app_model.proofs.Cells.{length-row_at}
 use Rattle.flow_model.specs.Subject.{status_masks, own_operation, mask_passes, mask_throws}
 use Rattle.run_model.specs.Heaps.{Value, Zero, Heap, status, is_lost, counter_at, cell}
-use Rattle.run_model.specs.Machine.{Callback, Frame, Running, handlers_of, goes_to, goes_on, moved, throws_from}
+use Rattle.run_model.specs.Machine.{Callback, Frame, handlers_of, here_of, goes_to, goes_on, moves, throws_from, unwinds}
 use Rattle.run_model.specs.Relation.{AreTagged, Below, Each, IsCallback, IsHeap, IsInside, IsTop, Means}
 use Rattle.run_model.specs.Tagged.{IsTagged}
 use Rattle.flow_model.specs.TagFlow.{IsLive, can_throw, leads_on, may_throw}
@@ -115,10 +115,10 @@ module _ (x : SubjectParts) (own : ℕ) (set : Set) (p : Premises x own set) whe
 
   -- on to a successor, with what the instruction left
   pub goes_ok : (h h' : Heap) (f : Frame) (rest : List Frame) (values : List Value) (a : Act) (k : ℕ) (t : Top h f rest) → IsHeap (slot_count x) h' → act_at x.app f.method f.index ≡ Some a → length h.locks ≤ length h'.locks
-      → in_mask (passes own a (row_of f) (out_of f) k (status h own)) (status h' own) ≡ true → AreTagged (after (site_at x.app f.method f.index) a (row_of f)) values t.lo (length h'.locks) h' → IsInside x own set (goes_on x p.at h' f rest values k)
+      → in_mask (passes own a (row_of f) (out_of f) k (status h own)) (status h' own) ≡ true → AreTagged (after (site_at x.app f.method f.index) a (row_of f)) values t.lo (length h'.locks) h' → IsInside x own set (goes_on (here_of x p.at h' f rest) values k)
   goes_ok h h' f rest values a k t ok is le mask tagged = to (successor_at x.app f.method f.index k) refl
     where
-      to : (o : Option ℕ) → successor_at x.app f.method f.index k ≡ o → IsInside x own set (goes_to p.at h' f rest values o)
+      to : (o : Option ℕ) → successor_at x.app f.method f.index k ≡ o → IsInside x own set (goes_to (here_of x p.at h' f rest) values o)
       to None eq = tt
       to (Some j) eq = record {
         edge = p.edge;
@@ -140,14 +140,14 @@ module _ (x : SubjectParts) (own : ℕ) (set : Set) (p : Premises x own set) whe
 
   -- an instruction that leaves the heap as it is
   pub quiet_ok : (h : Heap) (ok : IsHeap (slot_count x) h) (f : Frame) (rest : List Frame) (values : List Value) (a : Act) (k : ℕ) (t : Top h f rest) → act_at x.app f.method f.index ≡ Some a
-      → in_mask (passes own a (row_of f) (out_of f) k (status h own)) (status h own) ≡ true → AreTagged (after (site_at x.app f.method f.index) a (row_of f)) values t.lo (length h.locks) h → IsInside x own set (goes_on x p.at h f rest values k)
+      → in_mask (passes own a (row_of f) (out_of f) k (status h own)) (status h own) ≡ true → AreTagged (after (site_at x.app f.method f.index) a (row_of f)) values t.lo (length h.locks) h → IsInside x own set (goes_on (here_of x p.at h f rest) values k)
   quiet_ok h ok f rest values a k t is mask tagged = goes_ok h h f rest values a k t ok is (omega arith) mask tagged
 
   -- ---- throws
   -- a handler that is reached
   handler_ok : (h : Heap) (ok : IsHeap (slot_count x) h) (f : Frame) (rest : List Frame) (a : Act) (t : Top h f rest) → act_at x.app f.method f.index ≡ Some a
       → in_mask (throws own a (row_of f) (out_of f) (status h own)) (status h own) ≡ true → AreTagged (thrown a (row_of f)) f.registers t.lo (length h.locks) h
-      → (k i : ℕ) → handler_at x.app f.method f.index k ≡ Some i → IsInside x own set (Running p.at h (moved f i f.registers ∷ rest))
+      → (k i : ℕ) → handler_at x.app f.method f.index k ≡ Some i → IsInside x own set (moves (here_of x p.at h f rest) f.registers i)
   handler_ok h ok f rest a t is mask tagged k i eq =
       let by_act : in_mask (mask_throws own (act_at x.app f.method f.index) (row_of f) (out_of f) (status h own)) (status h own) ≡ true = subst (λ (o : Option Act). in_mask (mask_throws own o (row_of f) (out_of f) (status h own)) (status h own) ≡ true) (sym is) mask in
       record {
@@ -169,13 +169,13 @@ module _ (x : SubjectParts) (own : ℕ) (set : Set) (p : Premises x own set) whe
       }
 
   -- a throw in the frames below the one that runs: there is none yet
-  left_ok : (h : Heap) (rest : List Frame) (n es hi : ℕ) → Below x set p.root start_status h rest n es hi → Each (IsInside x own set) (throws_from x p.at h rest)
+  left_ok : (h : Heap) (rest : List Frame) (n es hi : ℕ) → Below x set p.root start_status h rest n es hi → Each (IsInside x own set) (unwinds x p.at h rest)
   left_ok h [] n es hi b = (tt, tt)
   left_ok h (g ∷ rest) n es hi b = absurd (b.2.call)
 
   pub throws_ok : (h : Heap) (ok : IsHeap (slot_count x) h) (f : Frame) (rest : List Frame) (a : Act) (t : Top h f rest) → act_at x.app f.method f.index ≡ Some a
-      → in_mask (throws own a (row_of f) (out_of f) (status h own)) (status h own) ≡ true → AreTagged (thrown a (row_of f)) f.registers t.lo (length h.locks) h → Each (IsInside x own set) (throws_from x p.at h (f ∷ rest))
+      → in_mask (throws own a (row_of f) (out_of f) (status h own)) (status h own) ≡ true → AreTagged (thrown a (row_of f)) f.registers t.lo (length h.locks) h → Each (IsInside x own set) (throws_from (here_of x p.at h f rest))
   throws_ok h ok f rest a t is mask tagged =
-      each_append (IsInside x own set) (map (λ i. Running p.at h (moved f i f.registers ∷ rest)) (handlers_of (place_at x.app f.method f.index))) _
+      each_append (IsInside x own set) (map (moves (here_of x p.at h f rest) f.registers) (handlers_of (place_at x.app f.method f.index))) _
       (each_map_at (IsInside x own set) _ (handlers_of (place_at x.app f.method f.index)) (λ k i eq. handler_ok h ok f rest a t is mask tagged k i (handler_numbered (place_at x.app f.method f.index) k i eq)))
-      (each_if (IsInside x own set) (leaves_at x.app f.method f.index) (throws_from x p.at h rest) [] (λ _. left_ok h rest f.method t.e t.lo t.below) (λ _. tt))
+      (each_if (IsInside x own set) (leaves_at x.app f.method f.index) (unwinds x p.at h rest) [] (λ _. left_ok h rest f.method t.e t.lo t.below) (λ _. tt))

@@ -108,6 +108,20 @@ written_values app written.ClassObject = object_of app class_name ∷ []
 written_values app (written.Typed kind) = Object (Some kind.0) ∷ []
 
 -- ---- on and off an instruction
+-- where the machine stands in a callback: its heap, the frame that runs, and the frames below that one
+pub record Here : Type 0 where
+  pub subject : SubjectParts
+  pub callback : Callback
+  pub heap : Heap
+  pub frame : Frame
+  pub rest : List Frame
+
+abbrev pub here_of : SubjectParts → Callback → Heap → Frame → List Frame → Here
+here_of x at h f rest = record { subject = x; callback = at; heap = h; frame = f; rest = rest }
+
+abbrev pub with_heap : Here → Heap → Here
+with_heap here h = here_of here.subject here.callback h here.frame here.rest
+
 -- a register that is not there has no value
 abbrev pub register : Frame → ℕ → Option Value
 register f r = slice_get f.registers r
@@ -115,45 +129,50 @@ register f r = slice_get f.registers r
 abbrev pub result_index : Frame → ℕ
 result_index f = pred (length f.registers)
 
-abbrev pub moved : Frame → ℕ → List Value → Frame
-moved f i registers = record { method = f.method; index = i; registers = registers }
+-- at instruction i of the same method
+abbrev pub moves : Here → List Value → ℕ → State
+moves here registers i =
+    Running here.callback here.heap (record { method = here.frame.method; index = i; registers = registers } ∷ here.rest)
 
-abbrev pub goes_to : Callback → Heap → Frame → List Frame → List Value → Option ℕ → State
-goes_to at h f rest registers None = Over Stuck
-goes_to at h f rest registers (Some i) = Running at h (moved f i registers ∷ rest)
+abbrev pub goes_to : Here → List Value → Option ℕ → State
+goes_to here registers None = Over Stuck
+goes_to here registers (Some i) = moves here registers i
 
 -- on to successor k
-abbrev pub goes_on : SubjectParts → Callback → Heap → Frame → List Frame → List Value → ℕ → State
-goes_on x at h f rest registers k = goes_to at h f rest registers (successor_at x.app f.method f.index k)
+abbrev pub goes_on : Here → List Value → ℕ → State
+goes_on here registers k = goes_to here registers (successor_at here.subject.app here.frame.method here.frame.index k)
 
 -- on with a value in a register; and in the result cell
-abbrev pub writes : SubjectParts → Callback → Heap → Frame → List Frame → ℕ → Value → State
-writes x at h f rest to v = goes_on x at h f rest (slice_set f.registers to v) 0
+abbrev pub writes : Here → ℕ → Value → State
+writes here to v = goes_on here (slice_set here.frame.registers to v) 0
 
-abbrev pub answers : SubjectParts → Callback → Heap → Frame → List Frame → Value → State
-answers x at h f rest v = writes x at h f rest (result_index f) v
+abbrev pub answers : Here → Value → State
+answers here v = writes here (result_index here.frame) v
 
 abbrev pub handlers_of : Option Place → List ℕ
 handlers_of None = []
 handlers_of (Some place) = place.handlers
 
 -- a throw: the handlers that it can come to, and where it can leave, what it does in the frame below
-abbrev pub throws_from : SubjectParts → Callback → Heap → List Frame → List State
-throws_from x at h [] = Over Uncaught ∷ []
-throws_from x at h (f ∷ rest) =
-    map (λ i. Running at h (moved f i f.registers ∷ rest)) (handlers_of (place_at x.app f.method f.index))
-    ++ (if leaves_at x.app f.method f.index then throws_from x at h rest else [])
+abbrev pub unwinds : SubjectParts → Callback → Heap → List Frame → List State
+unwinds x at h [] = Over Uncaught ∷ []
+unwinds x at h (f ∷ rest) =
+    map (moves (here_of x at h f rest) f.registers) (handlers_of (place_at x.app f.method f.index))
+    ++ (if leaves_at x.app f.method f.index then unwinds x at h rest else [])
+
+abbrev pub throws_from : Here → List State
+throws_from here = unwinds here.subject here.callback here.heap (here.frame ∷ here.rest)
 
 -- ---- where an instruction throws
 -- by a register that must not be null
-abbrev pub null_options : SubjectParts → Callback → Heap → Frame → List Frame → Option Value → List State → List State
-null_options x at h f rest None normal = Over Stuck ∷ []
-null_options x at h f rest (Some v) normal = if is_null v then throws_from x at h (f ∷ rest) else normal
+abbrev pub null_options : Here → Option Value → List State → List State
+null_options here None normal = Over Stuck ∷ []
+null_options here (Some v) normal = if is_null v then throws_from here else normal
 
-abbrev pub throws_options : SubjectParts → Callback → Heap → Frame → List Frame → Throws → List State → List State
-throws_options x at h f rest Never normal = normal
-throws_options x at h f rest ByChoice normal = normal ++ throws_from x at h (f ∷ rest)
-throws_options x at h f rest (WhereZero r) normal = null_options x at h f rest (register f r) normal
+abbrev pub throws_options : Here → Throws → List State → List State
+throws_options here Never normal = normal
+throws_options here ByChoice normal = normal ++ throws_from here
+throws_options here (WhereZero r) normal = null_options here (register here.frame r) normal
 
 -- ---- the instructions
 -- on by each successor; the nop before a payload has none
@@ -165,75 +184,80 @@ abbrev pub successors_of : Option Place → List ℕ
 successors_of None = []
 successors_of (Some place) = place.successors
 
-abbrev pub go_options : SubjectParts → Callback → Heap → Frame → List Frame → List State
-go_options x at h f rest =
-    stuck_if_none (map (λ i. Running at h (moved f i f.registers ∷ rest)) (successors_of (place_at x.app f.method f.index)))
+abbrev pub go_options : Here → List State
+go_options here =
+    stuck_if_none
+    (map (moves here here.frame.registers) (successors_of (place_at here.subject.app here.frame.method here.frame.index)))
 
 -- the branch of a test by its value
 abbrev pub branch : (way : ℕ) → (is_zero : Bool) → ℕ
 branch way true = way
 branch way false = if way == 0 then 1 else 0
 
-abbrev pub test_options : SubjectParts → Callback → Heap → Frame → List Frame → ℕ → Option Value → List State
-test_options x at h f rest way None = Over Stuck ∷ []
-test_options x at h f rest way (Some v) = goes_on x at h f rest f.registers (branch way (is_null v)) ∷ []
+abbrev pub test_options : Here → ℕ → Option Value → List State
+test_options here way None = Over Stuck ∷ []
+test_options here way (Some v) = goes_on here here.frame.registers (branch way (is_null v)) ∷ []
 
 -- a copy, of a pair too: both are read before either is written
-abbrev pub copy_options : SubjectParts → Callback → Heap → Frame → List Frame → ℕ → (wide : Bool) → (first second : Option Value) → List State
-copy_options x at h f rest to wide None second = Over Stuck ∷ []
-copy_options x at h f rest to false (Some v) second = writes x at h f rest to v ∷ []
-copy_options x at h f rest to true (Some v) None = Over Stuck ∷ []
-copy_options x at h f rest to true (Some v) (Some w) = goes_on x at h f rest (put true f.registers to v w) 0 ∷ []
+abbrev pub copy_options : Here → ℕ → (wide : Bool) → (first second : Option Value) → List State
+copy_options here to wide None second = Over Stuck ∷ []
+copy_options here to false (Some v) second = writes here to v ∷ []
+copy_options here to true (Some v) None = Over Stuck ∷ []
+copy_options here to true (Some v) (Some w) = goes_on here (put true here.frame.registers to v w) 0 ∷ []
 
-abbrev pub take_options : SubjectParts → Callback → Heap → Frame → List Frame → ℕ → Option Value → List State
-take_options x at h f rest to None = Over Stuck ∷ []
-take_options x at h f rest to (Some v) = writes x at h f rest to v ∷ []
+abbrev pub take_options : Here → ℕ → Option Value → List State
+take_options here to None = Over Stuck ∷ []
+take_options here to (Some v) = writes here to v ∷ []
 
 -- one value, or two of a pair, of which the first varies slowest
-abbrev pub written_options : SubjectParts → Callback → Heap → Frame → List Frame → ℕ → (wide : Bool) → List Value → List State
-written_options x at h f rest to false values = map (writes x at h f rest to) values
-written_options x at h f rest to true values =
-    flat_map (λ v. map (λ w. goes_on x at h f rest (put true f.registers to v w) 0) values) values
+abbrev pub written_options : Here → ℕ → (wide : Bool) → List Value → List State
+written_options here to false values = map (writes here to) values
+written_options here to true values =
+    flat_map (λ v. map (λ w. goes_on here (put true here.frame.registers to v w) 0) values) values
 
 -- a store to a lock field: of null, or of a lock that no field owned before
-abbrev pub store_options : SubjectParts → Callback → Heap → Frame → List Frame → ℕ → Value → List State
-store_options x at h f rest l Zero = goes_on x at (with_null h l) f rest f.registers 0 ∷ []
-store_options x at h f rest l Nonzero = Over Stuck ∷ []
-store_options x at h f rest l (Object type) = Over Stuck ∷ []
-store_options x at h f rest l (LockRef i) =
-    if is_owned (lock_at h i).owner then Over Escape ∷ [] else goes_on x at (with_stored h l i) f rest f.registers 0 ∷ []
+abbrev pub store_options : Here → ℕ → Value → List State
+store_options here l Zero = goes_on (with_heap here (with_null here.heap l)) here.frame.registers 0 ∷ []
+store_options here l Nonzero = Over Stuck ∷ []
+store_options here l (Object type) = Over Stuck ∷ []
+store_options here l (LockRef i) =
+    if is_owned (lock_at here.heap i).owner
+    then Over Escape ∷ [] else goes_on (with_heap here (with_stored here.heap l i)) here.frame.registers 0 ∷ []
 
-abbrev pub write_options : SubjectParts → Callback → Heap → Frame → List Frame → LockNo → Option Value → List State
-write_options x at h f rest l None = Over Stuck ∷ []
-write_options x at h f rest l (Some v) = store_options x at h f rest l.0 v
+abbrev pub write_options : Here → LockNo → Option Value → List State
+write_options here l None = Over Stuck ∷ []
+write_options here l (Some v) = store_options here l.0 v
 
 -- a value goes where a lock is not followed
-abbrev pub give_options : SubjectParts → Callback → Heap → Frame → List Frame → Option Value → List State
-give_options x at h f rest None = Over Stuck ∷ []
-give_options x at h f rest (Some v) = if is_lock v then Over Escape ∷ [] else goes_on x at h f rest f.registers 0 ∷ []
+abbrev pub give_options : Here → Option Value → List State
+give_options here None = Over Stuck ∷ []
+give_options here (Some v) = if is_lock v then Over Escape ∷ [] else goes_on here here.frame.registers 0 ∷ []
 
-abbrev pub throw_options : SubjectParts → Callback → Heap → Frame → List Frame → Option Value → List State
-throw_options x at h f rest None = Over Stuck ∷ []
-throw_options x at h f rest (Some v) = if is_lock v then Over Escape ∷ [] else throws_from x at h (f ∷ rest)
+abbrev pub throw_options : Here → Option Value → List State
+throw_options here None = Over Stuck ∷ []
+throw_options here (Some v) = if is_lock v then Over Escape ∷ [] else throws_from here
 
 -- a return from the last frame ends the callback
 abbrev pub ended : Callback → Heap → Option Edge → State
 ended at h None = Over Stuck
 ended at h (Some edge) = AtEnd (record { states = slice_set at.states at.component edge.to; component = at.component; edge = at.edge }) h
 
-abbrev pub returns : SubjectParts → Callback → Heap → List Frame → Value → State
-returns x at h [] v = ended at h (edge_at x.list at.component at.edge)
-returns x at h (f ∷ rest) v = answers x at h f rest v
+abbrev pub resumes : SubjectParts → Callback → Heap → List Frame → Value → State
+resumes x at h [] v = ended at h (edge_at x.list at.component at.edge)
+resumes x at h (f ∷ rest) v = answers (here_of x at h f rest) v
 
-abbrev pub return_by : SubjectParts → Callback → Heap → List Frame → Option Value → List State
-return_by x at h rest None = Over Stuck ∷ []
-return_by x at h rest (Some v) = returns x at h rest v ∷ []
+abbrev pub returns : Here → Value → State
+returns here v = resumes here.subject here.callback here.heap here.rest v
+
+abbrev pub return_by : Here → Option Value → List State
+return_by here None = Over Stuck ∷ []
+return_by here (Some v) = returns here v ∷ []
 
 -- a pair is answered as zero
-abbrev pub return_options : SubjectParts → Callback → Heap → Frame → List Frame → Returned → List State
-return_options x at h f rest returned.Nothing = returns x at h rest Zero ∷ []
-return_options x at h f rest returned.Wide = returns x at h rest Zero ∷ []
-return_options x at h f rest (returned.Register r) = return_by x at h rest (register f r)
+abbrev pub return_options : Here → Returned → List State
+return_options here returned.Nothing = returns here Zero ∷ []
+return_options here returned.Wide = returns here Zero ∷ []
+return_options here (returned.Register r) = return_by here (register here.frame r)
 
 -- ---- calls
 -- the receiver: a call without arguments has none
@@ -249,66 +273,70 @@ abbrev pub gives_lock : Frame → Args → ℕ → Bool
 gives_lock f arguments from = any_below (λ k. nat_le from k && is_lock_in (register f (arg_at arguments k))) (args_len arguments)
 
 -- release: of a counted lock one less, of another all
-abbrev pub release_options : SubjectParts → Callback → Heap → Frame → List Frame → ℕ → Bool → ℕ → List State
-release_options x at h f rest i true zero = throws_from x at h (f ∷ rest)
-release_options x at h f rest i true (suc n) = answers x at (with_count h i n) f rest Zero ∷ []
-release_options x at h f rest i false n = answers x at (with_count h i 0) f rest Zero ∷ []
+abbrev pub release_options : Here → ℕ → Bool → ℕ → List State
+release_options here i true zero = throws_from here
+release_options here i true (suc n) = answers (with_heap here (with_count here.heap i n)) Zero ∷ []
+release_options here i false n = answers (with_heap here (with_count here.heap i 0)) Zero ∷ []
 
 -- setReferenceCounted
-abbrev pub mode_options : SubjectParts → Callback → Heap → Frame → List Frame → ℕ → Option Value → List State
-mode_options x at h f rest i None = Over Stuck ∷ []
-mode_options x at h f rest i (Some v) = answers x at (with_mode h i (not (is_null v))) f rest Zero ∷ []
+abbrev pub mode_options : Here → ℕ → Option Value → List State
+mode_options here i None = Over Stuck ∷ []
+mode_options here i (Some v) = answers (with_heap here (with_mode here.heap i (not (is_null v)))) Zero ∷ []
 
 -- a lock call on lock i, which a field owns
-abbrev pub operation_options : SubjectParts → Callback → Heap → Frame → List Frame → LockOp → Args → ℕ → List State
-operation_options x at h f rest Acquire arguments i = answers x at (with_count h i (suc (lock_at h i).count)) f rest Zero ∷ []
-operation_options x at h f rest Release arguments i = release_options x at h f rest i (lock_at h i).counted (lock_at h i).count
-operation_options x at h f rest IsHeld arguments i = answers x at h f rest (held_value (lock_at h i).count) ∷ []
-operation_options x at h f rest Mode arguments i = mode_options x at h f rest i (register f (argument_of arguments))
+abbrev pub operation_options : Here → LockOp → Args → ℕ → List State
+operation_options here Acquire arguments i =
+    answers (with_heap here (with_count here.heap i (suc (lock_at here.heap i).count))) Zero ∷ []
+operation_options here Release arguments i = release_options here i (lock_at here.heap i).counted (lock_at here.heap i).count
+operation_options here IsHeld arguments i = answers here (held_value (lock_at here.heap i).count) ∷ []
+operation_options here Mode arguments i = mode_options here i (register here.frame (argument_of arguments))
 
 -- a lock call by its receiver
-abbrev pub lock_call_options : SubjectParts → Callback → Heap → Frame → List Frame → LockOp → Args → Option Value → List State
-lock_call_options x at h f rest op arguments None = Over Stuck ∷ []
-lock_call_options x at h f rest op arguments (Some Zero) = throws_from x at h (f ∷ rest)
-lock_call_options x at h f rest op arguments (Some Nonzero) = Over Stuck ∷ []
-lock_call_options x at h f rest op arguments (Some (Object type)) = Over Stuck ∷ []
-lock_call_options x at h f rest op arguments (Some (LockRef i)) =
-    if is_owned (lock_at h i).owner then operation_options x at h f rest op arguments i else Over Escape ∷ []
+abbrev pub lock_call_options : Here → LockOp → Args → Option Value → List State
+lock_call_options here op arguments None = Over Stuck ∷ []
+lock_call_options here op arguments (Some Zero) = throws_from here
+lock_call_options here op arguments (Some Nonzero) = Over Stuck ∷ []
+lock_call_options here op arguments (Some (Object type)) = Over Stuck ∷ []
+lock_call_options here op arguments (Some (LockRef i)) =
+    if is_owned (lock_at here.heap i).owner then operation_options here op arguments i else Over Escape ∷ []
 
 -- what another call answers: newWakeLock a new lock, every other one what the outside gives
-abbrev pub answer_options : SubjectParts → Callback → Heap → Frame → List Frame → LockUse → Gives → List State
-answer_options x at h f rest Make given = answers x at (with_new h (site_at x.app f.method f.index)) f rest (LockRef (length h.locks)) ∷ []
-answer_options x at h f rest usage given = map (answers x at h f rest) (answers_of x.app given)
+abbrev pub answer_options : Here → LockUse → Gives → List State
+answer_options here Make given =
+    answers (with_heap here (with_new here.heap (site_at here.subject.app here.frame.method here.frame.index)))
+    (LockRef (length here.heap.locks)) ∷ []
+answer_options here usage given = map (answers here) (answers_of here.subject.app given)
 
 -- an object of that type may be the receiver of a call of the named method; an array's methods take every object
 abbrev pub may_receive : AppParts → Option ℕ → Option Named → Bool
 may_receive app t None = false
 may_receive app t (Some named) = slice_index (type_text app named.class.0) 0 == 91 || may_be_sub app t named.class.0
 
-abbrev pub outside_answers : SubjectParts → Callback → Heap → Frame → List Frame → LockUse → Gives → List State
-outside_answers x at h f rest usage given = answer_options x at h f rest usage given ++ throws_from x at h (f ∷ rest)
+abbrev pub outside_answers : Here → LockUse → Gives → List State
+outside_answers here usage given = answer_options here usage given ++ throws_from here
 
 -- an object as the receiver: of a virtual call it is one of the named class
-abbrev pub object_options : SubjectParts → Callback → Heap → Frame → List Frame → By → Option ℕ → List State → List State
-object_options x at h f rest Virtual type normal =
-    if may_receive x.app type (named_at x.app f.method f.index) then normal else Over Stuck ∷ []
-object_options x at h f rest Super type normal = normal
-object_options x at h f rest Direct type normal = normal
-object_options x at h f rest Static type normal = normal
+abbrev pub object_options : Here → By → Option ℕ → List State → List State
+object_options here Virtual type normal =
+    if may_receive here.subject.app type (named_at here.subject.app here.frame.method here.frame.index)
+    then normal else Over Stuck ∷ []
+object_options here Super type normal = normal
+object_options here Direct type normal = normal
+object_options here Static type normal = normal
 
 -- another call by its receiver, which is no lock; it may answer, or throw
-abbrev pub receiver_options : SubjectParts → Callback → Heap → Frame → List Frame → By → Option Value → List State → List State
-receiver_options x at h f rest by None normal = Over Stuck ∷ []
-receiver_options x at h f rest by (Some Zero) normal = throws_from x at h (f ∷ rest)
-receiver_options x at h f rest by (Some Nonzero) normal = Over Stuck ∷ []
-receiver_options x at h f rest by (Some (LockRef i)) normal = Over Stuck ∷ []
-receiver_options x at h f rest by (Some (Object type)) normal = object_options x at h f rest by type normal
+abbrev pub receiver_options : Here → By → Option Value → List State → List State
+receiver_options here by None normal = Over Stuck ∷ []
+receiver_options here by (Some Zero) normal = throws_from here
+receiver_options here by (Some Nonzero) normal = Over Stuck ∷ []
+receiver_options here by (Some (LockRef i)) normal = Over Stuck ∷ []
+receiver_options here by (Some (Object type)) normal = object_options here by type normal
 
-abbrev pub outside_options : SubjectParts → Callback → Heap → Frame → List Frame → By → LockUse → Gives → Option Value → List State
-outside_options x at h f rest Static usage given receiver = outside_answers x at h f rest usage given
-outside_options x at h f rest Virtual usage given receiver = receiver_options x at h f rest Virtual receiver (outside_answers x at h f rest usage given)
-outside_options x at h f rest Super usage given receiver = receiver_options x at h f rest Super receiver (outside_answers x at h f rest usage given)
-outside_options x at h f rest Direct usage given receiver = receiver_options x at h f rest Direct receiver (outside_answers x at h f rest usage given)
+abbrev pub outside_options : Here → By → LockUse → Gives → Option Value → List State
+outside_options here Static usage given receiver = outside_answers here usage given
+outside_options here Virtual usage given receiver = receiver_options here Virtual receiver (outside_answers here usage given)
+outside_options here Super usage given receiver = receiver_options here Super receiver (outside_answers here usage given)
+outside_options here Direct usage given receiver = receiver_options here Direct receiver (outside_answers here usage given)
 
 -- setReferenceCounted without an argument
 abbrev pub lacks_argument : LockOp → Option Value → Bool
@@ -318,45 +346,48 @@ lacks_argument Acquire argument = false
 lacks_argument Release argument = false
 lacks_argument IsHeld argument = false
 
-abbrev pub full_lock_call_options : SubjectParts → Callback → Heap → Frame → List Frame → LockOp → Args → List State
-full_lock_call_options x at h f rest op arguments =
-    if lacks_argument op (register f (argument_of arguments))
-    then Over Stuck ∷ [] else lock_call_options x at h f rest op arguments (receiver_in f arguments)
+abbrev pub full_lock_call_options : Here → LockOp → Args → List State
+full_lock_call_options here op arguments =
+    if lacks_argument op (register here.frame (argument_of arguments))
+    then Over Stuck ∷ [] else lock_call_options here op arguments (receiver_in here.frame arguments)
 
 -- a lock may be the receiver of a lock call, and no other argument of a call
-abbrev pub call_by_op : SubjectParts → Callback → Heap → Frame → List Frame → By → LockUse → Args → Gives → Option LockOp → List State
-call_by_op x at h f rest by usage arguments given (Some op) =
-    if gives_lock f arguments 1 then Over Escape ∷ [] else full_lock_call_options x at h f rest op arguments
-call_by_op x at h f rest by usage arguments given None =
-    if gives_lock f arguments 0 then Over Escape ∷ [] else outside_options x at h f rest by usage given (receiver_in f arguments)
+abbrev pub call_by_op : Here → By → LockUse → Args → Gives → Option LockOp → List State
+call_by_op here by usage arguments given (Some op) =
+    if gives_lock here.frame arguments 1
+    then Over Escape ∷ [] else full_lock_call_options here op arguments
+call_by_op here by usage arguments given None =
+    if gives_lock here.frame arguments 0
+    then Over Escape ∷ [] else outside_options here by usage given (receiver_in here.frame arguments)
 
-abbrev pub call_options : SubjectParts → Callback → Heap → Frame → List Frame → By → LockUse → Args → Gives → List State
-call_options x at h f rest by usage arguments given = call_by_op x at h f rest by usage arguments given (op_of usage)
+abbrev pub call_options : Here → By → LockUse → Args → Gives → List State
+call_options here by usage arguments given = call_by_op here by usage arguments given (op_of usage)
 
 -- an array of its arguments, in the result cell
-abbrev pub fill_options : SubjectParts → Callback → Heap → Frame → List Frame → Args → TypeNo → List State
-fill_options x at h f rest arguments kind =
-    if gives_lock f arguments 0 then Over Escape ∷ [] else answers x at h f rest (Object (Some kind.0)) ∷ []
+abbrev pub fill_options : Here → Args → TypeNo → List State
+fill_options here arguments kind =
+    if gives_lock here.frame arguments 0 then Over Escape ∷ [] else answers here (Object (Some kind.0)) ∷ []
 
 -- ---- every act
-abbrev pub act_options : SubjectParts → Callback → Heap → Frame → List Frame → Option Act → List State
-act_options x at h f rest None = Over Stuck ∷ []
-act_options x at h f rest (Some Go) = go_options x at h f rest
-act_options x at h f rest (Some (Test value way)) = test_options x at h f rest way (register f value)
-act_options x at h f rest (Some (Copy to from wide)) = copy_options x at h f rest to wide (register f from) (register f (from + 1))
-act_options x at h f rest (Some (TakeResult to)) = take_options x at h f rest to (register f (result_index f))
-act_options x at h f rest (Some (Write to what throws)) =
-    throws_options x at h f rest throws (written_options x at h f rest to (is_pair what) (written_values x.app what))
-act_options x at h f rest (Some (Fill arguments kind)) = fill_options x at h f rest arguments kind
-act_options x at h f rest (Some (ReadSlot to slot throws)) =
-    throws_options x at h f rest throws (writes x at h f rest to (cell_value (cell h slot.0)) ∷ [])
-act_options x at h f rest (Some (WriteSlot from slot throws)) =
-    throws_options x at h f rest throws (write_options x at h f rest slot (register f from))
-act_options x at h f rest (Some (Give from throws)) = throws_options x at h f rest throws (give_options x at h f rest (register f from))
-act_options x at h f rest (Some (Check throws)) = throws_options x at h f rest throws (goes_on x at h f rest f.registers 0 ∷ [])
-act_options x at h f rest (Some (Throw object)) = throw_options x at h f rest (register f object)
-act_options x at h f rest (Some (Return answer)) = return_options x at h f rest answer
-act_options x at h f rest (Some (Call by usage arguments given)) = call_options x at h f rest by usage arguments given
+abbrev pub act_options : Here → Option Act → List State
+act_options here None = Over Stuck ∷ []
+act_options here (Some Go) = go_options here
+act_options here (Some (Test value way)) = test_options here way (register here.frame value)
+act_options here (Some (Copy to from wide)) =
+    copy_options here to wide (register here.frame from) (register here.frame (from + 1))
+act_options here (Some (TakeResult to)) = take_options here to (register here.frame (result_index here.frame))
+act_options here (Some (Write to what throws)) =
+    throws_options here throws (written_options here to (is_pair what) (written_values here.subject.app what))
+act_options here (Some (Fill arguments kind)) = fill_options here arguments kind
+act_options here (Some (ReadSlot to slot throws)) =
+    throws_options here throws (writes here to (cell_value (cell here.heap slot.0)) ∷ [])
+act_options here (Some (WriteSlot from slot throws)) =
+    throws_options here throws (write_options here slot (register here.frame from))
+act_options here (Some (Give from throws)) = throws_options here throws (give_options here (register here.frame from))
+act_options here (Some (Check throws)) = throws_options here throws (goes_on here here.frame.registers 0 ∷ [])
+act_options here (Some (Throw object)) = throw_options here (register here.frame object)
+act_options here (Some (Return answer)) = return_options here answer
+act_options here (Some (Call by usage arguments given)) = call_options here by usage arguments given
 
 -- ---- the start of a callback
 -- the values of an argument of a type, for each of its words
@@ -415,7 +446,7 @@ starts x states h c (component ∷ components) = edge_starts x states h c 0 (edg
 abbrev pub options_of : SubjectParts → State → List State
 options_of x (Idle states h) = starts x states h 0 x.list
 options_of x (Running at h []) = Over Stuck ∷ []
-options_of x (Running at h (f ∷ rest)) = act_options x at h f rest (act_at x.app f.method f.index)
+options_of x (Running at h (f ∷ rest)) = act_options (here_of x at h f rest) (act_at x.app f.method f.index)
 options_of x (AtEnd at h) = Idle at.states h ∷ []
 options_of x (Over why) = Over why ∷ []
 
