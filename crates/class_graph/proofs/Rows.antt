@@ -1,46 +1,25 @@
 -- Rows of members.
-use Rattle.std.proofs.Common.{◌≡◌, ◌≢◌, ℕ, suc, ◌+◌, ◌<◌, ◌≤◌, ◌++◌, ◌&&◌, Bool, true, false, cond, List, [], ◌∷◌, length, get_or, set, map, take, replicate, refl, sym, ap, ap₂, ◌∙◌, ⊎_elim, arith, eqb, eq-eqb, Option, Some, None, position, slice_get}
+use Rattle.std.proofs.Common.{◌≡◌, ◌≢◌, ℕ, suc, ◌+◌, ◌<◌, ◌++◌, ◌&&◌, Bool, true, false, cond, List, [], ◌∷◌, length, map, take, refl, sym, ap, ap₂, ◌∙◌, ⊎_elim, arith, eqb, eq-eqb, ◌==◌, Option, Some, None, is_some, position, slice_get}
 use Rattle.std.specs.Prelude.{not}
 use Rattle.std.specs.List.{position_from}
-use Rattle.std.specs.declared.vec.Vec.{Vec}
-use Rattle.std.specs.declared.alloc.Global.{Global}
-use Rattle.std.proofs.lemmas.Bool.{cases_eq, cases_lt}
+use Rattle.std.proofs.lemmas.Bool.{eqb-true, false≢true}
 use Rattle.std.proofs.lemmas.Bool.Decides.{eqb_tells}
 use Rattle.std.proofs.lemmas.Iterator.Adapters.{position_from-zero}
-use Rattle.std.proofs.lemmas.List.{get_or_past, get_or-replicate, get_or-set_same, get_or-set_other, get_or-map, length-map, length-replicate, length-take-le, map-append, map-set, replicate_more, take_more}
+use Rattle.std.proofs.lemmas.List.{length-take-le, map-append, take_more}
 use Rattle.std.proofs.lemmas.Option.{get_or_from_slice_get, slice_get_cases, slice_get_within}
+use Rattle.std.specs.Map.{lookup}
 use Rattle.app_model.specs.Hierarchy.{or_else}
 use Rattle.class_graph.specs.declared.members.Member.{Member}
 use Rattle.class_graph.specs.Built.{AreMembers}
-use Rattle.class_graph.specs.Graph.{first_member, is_member, member_in}
+use Rattle.class_graph.specs.Graph.{member_in, member_of, same_member}
 
 not_equal : (a b : ℕ) → a ≢ b → eqb a b ≡ false
 not_equal a b ne = ⊎_elim (λ yes. absurd (ne yes.1)) (λ off. off.0) (eqb_tells a b)
-
-abbrev pub items : Vec Member Global → List Member
-items v = v.items
-
-pub rows_more : (rows : List (Vec Member Global)) (v : Vec Member Global) (n : ℕ) → map items rows ≡ replicate n [] → v.items ≡ [] → map items (rows ++ v ∷ []) ≡ replicate (n + 1) []
-rows_more rows v n before none = map-append items rows (v ∷ []) ∙ ap₂ (λ (xs : List (List Member)) (row : List Member). xs ++ row ∷ []) before none ∙ replicate_more n []
-
--- a member at the end of a row
-pub row_set : (rows : List (Vec Member Global)) (s : List (List Member)) (c : ℕ) (old new : Vec Member Global) (member : Member) → map items rows ≡ s → c < length s
-    → old ≡ get_or rows c old → new.items ≡ old.items ++ member ∷ [] → map items (set rows c new) ≡ set s c (get_or s c [] ++ member ∷ [])
-row_set rows s c old new member view below read is =
-    let within : c < length rows = omega (arith, below, ap length view, length-map rows items) in
-    map-set items rows c new
-    ∙ ap (λ (row : List Member). set (map items rows) c row) (is ∙ ap (λ (row : List Member). row ++ member ∷ []) (sym (get_or-map items rows c old [] within ∙ ap items (sym read))))
-    ∙ ap (λ (r : List (List Member)). set r c (get_or r c [] ++ member ∷ [])) view
 
 -- ---- the first that passes, with one more at the end
 or_if : (b : Bool) (a : ℕ) (x y z : Option ℕ) → x ≡ or_else y z → cond b (Some a) x ≡ or_else (cond b (Some a) y) z
 or_if true a x y z e = refl
 or_if false a x y z e = e
-
-first_push : (name second : ℕ) (members : List Member) (member : Member)
-    → first_member name second (members ++ member ∷ []) ≡ or_else (first_member name second members) (cond (is_member name second member) (Some member.number) None)
-first_push name second [] member = refl
-first_push name second (m ∷ members) member = or_if (is_member name second m) _ _ (first_member name second members) _ (first_push name second members member)
 
 from_push : {X : Type 0} (p : X → Bool) (i : ℕ) (xs : List X) (x : X) → position_from p i (xs ++ x ∷ []) ≡ or_else (position_from p i xs) (cond (p x) (Some (i + length xs)) None)
 from_push p i [] x = let e : i + 0 ≡ i = omega arith in rw e refl
@@ -55,14 +34,44 @@ or_none : (o : Option ℕ) → o ≡ or_else o None
 or_none None = refl
 or_none (Some n) = refl
 
--- ---- members among the first n
-pub no_members : (classes name second c : ℕ) → member_in (replicate classes []) name second c ≡ None
-unfolding member_in
-no_members classes name second c = ap (first_member name second) (⊎_elim
-    (λ (lt : c < classes). get_or-replicate classes c [] [] lt)
-    (λ (past : classes ≤ c). get_or_past (replicate classes []) c [] (rw length-replicate past))
-    (cases_lt c classes))
+-- ---- members with their numbers
+one_member : (a b : Member) → same_member a b ≡ true → b ≡ a
+one_member a b = by (a.class == b.class) (a.name == b.name) (a.second == b.second) refl refl refl
+  where
+    by : (c n s : Bool) → (a.class == b.class) ≡ c → (a.name == b.name) ≡ n → (a.second == b.second) ≡ s → (c && (n && s)) ≡ true → b ≡ a
+    by true true true ec en es e =
+        let class = eqb-true a.class b.class ec in
+        let name = eqb-true a.name b.name en in
+        let second = eqb-true a.second b.second es in
+        rw class (rw name (rw second refl))
+    by true true false ec en es e = absurd (false≢true e)
+    by true false s ec en es e = absurd (false≢true e)
+    by false n s ec en es e = absurd (false≢true e)
 
+abbrev Added : (old : List (Member × ℕ)) → Member → ℕ → (q : Member) → Option ℕ
+Added old member n q = or_else (lookup (same_member q) old) (cond (same_member member q) (Some n) None)
+
+module _ (old : List (Member × ℕ)) (member : Member) (n : ℕ) (q : Member) where
+  found_same : same_member member q ≡ true → lookup (same_member q) old ≡ lookup (same_member member) old
+  found_same e = ap (λ (m : Member). lookup (same_member m) old) (one_member member q e)
+
+  pub added_new : is_some (lookup (same_member member) old) ≡ false → cond (same_member member q) (Some n) (lookup (same_member q) old) ≡ Added old member n q
+  added_new new = by (same_member member q) refl (lookup (same_member q) old) refl
+    where
+      by : (b : Bool) → same_member member q ≡ b → (o : Option ℕ) → lookup (same_member q) old ≡ o → cond b (Some n) o ≡ or_else o (cond b (Some n) None)
+      by true e (Some found) is = absurd (false≢true (sym new ∙ ap is_some (sym (found_same e) ∙ is)))
+      by true e None is = refl
+      by false e o is = or_none o
+
+  pub added_again : is_some (lookup (same_member member) old) ≡ true → lookup (same_member q) old ≡ Added old member n q
+  added_again there = by (same_member member q) refl (lookup (same_member q) old) refl
+    where
+      by : (b : Bool) → same_member member q ≡ b → (o : Option ℕ) → lookup (same_member q) old ≡ o → o ≡ or_else o (cond b (Some n) None)
+      by true e None is = absurd (false≢true (ap is_some (sym is ∙ found_same e) ∙ there))
+      by b e (Some found) is = refl
+      by false e None is = refl
+
+-- ---- members among the first n
 module _ {X : Type 0} (test : (name second c : ℕ) → X → Bool) (xs : List X) (n : ℕ) (x : X) (read : slice_get xs n ≡ Some x) where
   next_position : (name second c : ℕ) → position (test name second c) (take (n + 1) xs) ≡ or_else (position (test name second c) (take n xs)) (cond (test name second c x) (Some n) None)
   next_position name second c =
@@ -72,30 +81,18 @@ module _ {X : Type 0} (test : (name second c : ℕ) → X → Bool) (xs : List X
       ∙ position_push (test name second c) (take n xs) x ∙ ap (λ k. or_else (position (test name second c) (take n xs)) (cond (test name second c x) (Some k) None)) len
 
   -- an element that is no member
-  pub members_same : (rows : List (List Member)) → ((name second c : ℕ) → test name second c x ≡ false) → AreMembers test xs n rows → AreMembers test xs (n + 1) rows
-  members_same rows off before name second c =
+  pub members_same : (members : List (Member × ℕ)) → ((name second c : ℕ) → test name second c x ≡ false) → AreMembers test xs n members → AreMembers test xs (n + 1) members
+  members_same members off before name second c =
       before name second c ∙ or_none _ ∙ sym (next_position name second c ∙ ap (λ b. or_else (position (test name second c) (take n xs)) (cond b (Some n) None)) (off name second c))
 
-  -- one that is the next member of class k
-  pub members_more : (rows : List (List Member)) (k : ℕ) (member : Member) → k < length rows → member.number ≡ n
-      → ((name second c : ℕ) → test name second c x ≡ (eqb k c && is_member name second member))
-      → AreMembers test xs n rows → AreMembers test xs (n + 1) (set rows k (get_or rows k [] ++ member ∷ []))
-  unfolding member_in
-  members_more rows k member within is same before name second c =
-      let row = get_or rows k [] ++ member ∷ [] in
-      let after : (b : Bool) → test name second c x ≡ b → position (test name second c) (take (n + 1) xs) ≡ or_else (member_in rows name second c) (cond b (Some n) None) =
-      λ b e. (next_position name second c ∙ ap (λ (t : Bool). or_else (position (test name second c) (take n xs)) (cond t (Some n) None)) e
-      ∙ ap (λ (o : Option ℕ). or_else o (cond b (Some n) None)) (sym (before name second c))) in
-      ⊎_elim
-      (λ (here : c ≡ k). rw here
-      (ap (first_member name second) (get_or-set_same rows k row [] within)
-      ∙ first_push name second (get_or rows k []) member
-      ∙ ap (λ (m : ℕ). or_else (first_member name second (get_or rows k [])) (cond (is_member name second member) (Some m) None)) is
-      ∙ rw (← here) (sym (after (is_member name second member) (same name second c ∙ ap (λ (b : Bool). b && is_member name second member) (eq-eqb k c (sym here)))))))
-      (λ (other : c ≢ k).
-      ap (first_member name second) (get_or-set_other rows k c row [] other)
-      ∙ or_none _ ∙ sym (after false (same name second c ∙ ap (λ (b : Bool). b && is_member name second member) (not_equal k c (λ e. other (sym e))))))
-      (cases_eq c k)
+  -- one that is the next member
+  pub members_more : (old new : List (Member × ℕ)) (member : Member) → ((name second c : ℕ) → test name second c x ≡ same_member member (member_of name second c))
+      → ((name second c : ℕ) → member_in new name second c ≡ or_else (member_in old name second c) (cond (same_member member (member_of name second c)) (Some n) None))
+      → AreMembers test xs n old → AreMembers test xs (n + 1) new
+  members_more old new member same added before name second c =
+      added name second c
+      ∙ ap₂ (λ (o : Option ℕ) (b : Bool). or_else o (cond b (Some n) None)) (before name second c) (sym (same name second c))
+      ∙ sym (next_position name second c)
 
 -- ---- abstract methods
 pub abstract_off : (a b c : Bool) (n : ℕ) → n ≢ 0 → (a && (b && (c && not (not (eqb n 0))))) ≡ false

@@ -39,14 +39,14 @@ is_method name proto c method = method.class.0 == c && (method.name.0 == name &&
 abbrev pub is_field : (name kind c : ℕ) → FieldRow → Bool
 is_field name kind c field = field.class.0 == c && (field.name.0 == name && field.kind.0 == kind)
 
-abbrev pub AreMembers : {X : Type 0} → (test : (name second c : ℕ) → X → Bool) → List X → ℕ → List (List Member) → Type 0
-AreMembers test xs n rows = (name second c : ℕ) → member_in rows name second c ≡ position (test name second c) (take n xs)
+abbrev pub AreMembers : {X : Type 0} → (test : (name second c : ℕ) → X → Bool) → List X → ℕ → List (Member × ℕ) → Type 0
+AreMembers test xs n members = (name second c : ℕ) → member_in members name second c ≡ position (test name second c) (take n xs)
 
-abbrev pub AreMethods : AppParts → ℕ → List (List Member) → Type 0
-AreMethods app n rows = AreMembers is_method app.methods n rows
+abbrev pub AreMethods : AppParts → ℕ → List (Member × ℕ) → Type 0
+AreMethods app n members = AreMembers is_method app.methods n members
 
-abbrev pub AreFields : AppParts → ℕ → List (List Member) → Type 0
-AreFields app n rows = AreMembers is_field app.fields n rows
+abbrev pub AreFields : AppParts → ℕ → List (Member × ℕ) → Type 0
+AreFields app n members = AreMembers is_field app.fields n members
 
 -- ---- all of it
 pub record IsBuilt (app : AppParts) (graph : GraphParts) : Type 0 where

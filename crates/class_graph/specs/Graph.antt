@@ -1,6 +1,7 @@
 -- A class hierarchy as contracts see it: rows of types and of classes, and what they answer.
-use Rattle.std.specs.Prelude.{ℕ, zero, suc, ◌==◌, if◌then◌else◌, ◌&&◌, ◌||◌, Bool, false, List, [], ◌∷◌, length, Option, Some, None, option_map, is_none, slice_get, slice_index_or}
+use Rattle.std.specs.Prelude.{ℕ, zero, suc, ◌==◌, ◌&&◌, ◌||◌, Bool, false, List, [], ◌∷◌, length, Option, Some, None, option_map, is_none, slice_get}
 use Rattle.std.specs.List.{list_any}
+use Rattle.std.specs.Map.{lookup}
 use Rattle.ns_base.specs.declared.rows.ClassNo.{ClassNo}
 use Rattle.ns_base.specs.declared.rows.TypeNo.{TypeNo}
 use Rattle.app_model.specs.Hierarchy.{is_superclass, is_type, nearest}
@@ -13,12 +14,12 @@ pub record AboveParts : Type 0 where
   pub kinds : List TypeNo
   pub unknown : Bool
 
--- rows of types, and of classes
+-- rows of types, and of classes; members with their numbers
 pub record GraphParts : Type 0 where
   pub kinds : List KindRow
   pub above : List AboveParts
-  pub methods : List (List Member)
-  pub fields : List (List Member)
+  pub methods : List (Member × ℕ)
+  pub fields : List (Member × ℕ)
 
 -- ---- the class of a type, and the classes above it
 abbrev pub class_in : Option KindRow → Option ℕ
@@ -76,16 +77,15 @@ unfoldable pub may_be_by : GraphParts → (t c : ℕ) → Bool
 may_be_by graph t c = sub_by graph t c || (is_none (class_by graph.kinds c) && unknown_by graph t)
 
 -- ---- members
-abbrev pub is_member : (name second : ℕ) → Member → Bool
-is_member name second member = member.name.0 == name && member.second == second
+abbrev pub same_member : Member → Member → Bool
+same_member a b = a.class == b.class && (a.name == b.name && a.second == b.second)
 
-abbrev pub first_member : (name second : ℕ) → List Member → Option ℕ
-first_member name second [] = None
-first_member name second (member ∷ members) = if is_member name second member then Some member.number else first_member name second members
+abbrev pub member_of : (name second c : ℕ) → Member
+member_of name second c = record { class = c; name = name; second = second }
 
--- the first of these members of class c
-unfoldable pub member_in : List (List Member) → (name second c : ℕ) → Option ℕ
-member_in rows name second c = first_member name second (slice_index_or rows c [])
+-- the number of such a member of class c
+abbrev pub member_in : List (Member × ℕ) → (name second c : ℕ) → Option ℕ
+member_in members name second c = lookup (same_member (member_of name second c)) members
 
 unfoldable pub method_by : GraphParts → (c name proto : ℕ) → Option ℕ
 method_by graph c name proto = nearest (member_in graph.methods name proto) (line_by graph (Some c))
