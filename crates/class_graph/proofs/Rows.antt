@@ -1,5 +1,5 @@
 -- Rows of members.
-use Rattle.std.proofs.Common.{◌≡◌, ◌≢◌, ℕ, suc, ◌+◌, ◌<◌, ◌++◌, ◌&&◌, Bool, true, false, cond, List, [], ◌∷◌, length, map, take, refl, sym, ap, ap₂, ◌∙◌, ⊎_elim, arith, eqb, eq-eqb, ◌==◌, Option, Some, None, is_some, position, slice_get}
+use Rattle.std.proofs.Common.{◌≡◌, ◌≢◌, ℕ, suc, ◌+◌, ◌<◌, ◌++◌, ◌&&◌, Bool, true, false, cond, List, [], ◌∷◌, length, map, take, refl, sym, ap, ap₂, ◌∙◌, ⊎_elim, arith, eqb, eq-eqb, ◌==◌, Option, Some, None, position, slice_get}
 use Rattle.std.specs.Prelude.{not}
 use Rattle.std.specs.List.{position_from}
 use Rattle.std.proofs.lemmas.Bool.{eqb-true, false≢true}
@@ -8,6 +8,7 @@ use Rattle.std.proofs.lemmas.Iterator.Adapters.{position_from-zero}
 use Rattle.std.proofs.lemmas.List.{length-take-le, map-append, take_more}
 use Rattle.std.proofs.lemmas.Option.{get_or_from_slice_get, slice_get_cases, slice_get_within}
 use Rattle.std.specs.Map.{lookup}
+use Rattle.std.specs.Option.{unwrap_or}
 use Rattle.app_model.specs.Hierarchy.{or_else}
 use Rattle.class_graph.specs.declared.members.Member.{Member}
 use Rattle.class_graph.specs.Built.{AreMembers}
@@ -48,28 +49,18 @@ one_member a b = by (a.class == b.class) (a.name == b.name) (a.second == b.secon
     by true false s ec en es e = absurd (false≢true e)
     by false n s ec en es e = absurd (false≢true e)
 
-abbrev Added : (old : List (Member × ℕ)) → Member → ℕ → (q : Member) → Option ℕ
-Added old member n q = or_else (lookup (same_member q) old) (cond (same_member member q) (Some n) None)
+-- the number of an equal member stays
+pub added_one : (old : List (Member × ℕ)) (member : Member) (first n : ℕ) (q : Member) → first ≡ unwrap_or (lookup (same_member member) old) n
+    → cond (same_member member q) (Some first) (lookup (same_member q) old) ≡ or_else (lookup (same_member q) old) (cond (same_member member q) (Some n) None)
+added_one old member first n q is = by (same_member member q) refl
+  where
+    one : (o : Option ℕ) → first ≡ unwrap_or o n → Some first ≡ or_else o (Some n)
+    one None e = ap Some e
+    one (Some m) e = ap Some e
 
-module _ (old : List (Member × ℕ)) (member : Member) (n : ℕ) (q : Member) where
-  found_same : same_member member q ≡ true → lookup (same_member q) old ≡ lookup (same_member member) old
-  found_same e = ap (λ (m : Member). lookup (same_member m) old) (one_member member q e)
-
-  pub added_new : is_some (lookup (same_member member) old) ≡ false → cond (same_member member q) (Some n) (lookup (same_member q) old) ≡ Added old member n q
-  added_new new = by (same_member member q) refl (lookup (same_member q) old) refl
-    where
-      by : (b : Bool) → same_member member q ≡ b → (o : Option ℕ) → lookup (same_member q) old ≡ o → cond b (Some n) o ≡ or_else o (cond b (Some n) None)
-      by true e (Some found) is = absurd (false≢true (sym new ∙ ap is_some (sym (found_same e) ∙ is)))
-      by true e None is = refl
-      by false e o is = or_none o
-
-  pub added_again : is_some (lookup (same_member member) old) ≡ true → lookup (same_member q) old ≡ Added old member n q
-  added_again there = by (same_member member q) refl (lookup (same_member q) old) refl
-    where
-      by : (b : Bool) → same_member member q ≡ b → (o : Option ℕ) → lookup (same_member q) old ≡ o → o ≡ or_else o (cond b (Some n) None)
-      by true e None is = absurd (false≢true (ap is_some (sym is ∙ found_same e) ∙ there))
-      by b e (Some found) is = refl
-      by false e None is = refl
+    by : (b : Bool) → same_member member q ≡ b → cond b (Some first) (lookup (same_member q) old) ≡ or_else (lookup (same_member q) old) (cond b (Some n) None)
+    by true e = one _ (is ∙ ap (λ (m : Member). unwrap_or (lookup (same_member m) old) n) (sym (one_member member q e)))
+    by false e = or_none _
 
 -- ---- members among the first n
 module _ {X : Type 0} (test : (name second c : ℕ) → X → Bool) (xs : List X) (n : ℕ) (x : X) (read : slice_get xs n ≡ Some x) where

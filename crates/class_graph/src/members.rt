@@ -40,14 +40,13 @@ impl Members {
         }
     }
 
-    /// Adds a member, unless there is an equal one.
+    /// Adds a member; where there is an equal one, its number stays.
     pub fn add(&mut self, member: Member, number: u32) -> Result<(), AllocError>
         ensures { IfOk result (λ done. (name second c : ℕ) → member_in self.new name second c
             ≡ or_else (member_in self.old name second c) (if same_member member (member_of name second c) then Some number else None)) }
     {
-        if !self.numbers.contains_key(&member) {
-            self.numbers.insert(member, number)?;
-        }
+        let first = self.numbers.get(&member).copied().unwrap_or(number);
+        self.numbers.insert(member, first)?;
         Ok(())
     }
 

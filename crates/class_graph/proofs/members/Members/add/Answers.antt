@@ -1,12 +1,11 @@
-use Rattle.std.proofs.Common.{sym, ◌∙◌}
+use Rattle.std.proofs.Common.{ap, ◌∙◌}
+use Rattle.std.specs.Option.{unwrap_or}
 use Rattle.class_graph.specs.Graph.{member_of}
-use Rattle.class_graph.proofs.Rows.{added_again, added_new}
+use Rattle.class_graph.proofs.Rows.{added_one}
 use Rattle.class_graph.proofs.members.Members.add.Goals as goal
 
-pub returns-in_ok-insert : goal.returns-in_ok-insert
-returns-in_ok-insert c name second class =
-    rw (← c.self.view_is)
-    (c.in_ok-insert.ensures.updates.0 (member_of name second class) ∙ added_new c.self.inside.numbers.entries c.args.member c.args.number (member_of name second class) (sym c.contains_key.ensures ∙ c.if-not-contains_key.true))
-
-pub returns-else-not-contains_key : goal.returns-else-not-contains_key
-returns-else-not-contains_key c name second class = rw (← c.self.view_is) (added_again c.self.inside.numbers.entries c.args.member c.args.number (member_of name second class) (sym c.contains_key.ensures ∙ c.if-not-contains_key.false))
+pub returns : goal.returns
+returns c name second class =
+    let q = member_of name second class in
+    let first = c.unwrap_or-first.ensures ∙ ap (λ o. unwrap_or o c.args.number) (c.copied.ensures ∙ c.get.ensures.value) in
+    rw (← c.self.view_is) (c.in_ok-insert.ensures.updates.0 q ∙ added_one _ c.args.member _ c.args.number q first)
