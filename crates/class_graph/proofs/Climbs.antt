@@ -1,7 +1,7 @@
 -- The classes above one are fewer than there are classes, and what stands above a type is found on the way up.
 use Rattle.std.proofs.Common.{◌≡◌, ℕ, zero, suc, ◌<◌, ◌≤◌, ◌||◌, Bool, true, false, List, [], ◌∷◌, length, refl, sym, ap, ◌∙◌, subst, inl, inr, ⊎_elim, arith, eqb, Contains, Option, Some, None, slice_get}
 use Rattle.std.specs.List.{AllByRecursion, IsDistinct, list_any}
-use Rattle.std.proofs.lemmas.Bool.{cases_Bool, eqb-true, false≢true, or_cases}
+use Rattle.std.proofs.lemmas.Bool.{cases_Bool, eqb-true, false≢true, or_cases, or_left, or_right}
 use Rattle.std.proofs.lemmas.Map.Steps.{length-le_from_distinct_below}
 use Rattle.std.proofs.lemmas.Option.{slice_get_within}
 use Rattle.ns_base.specs.declared.rows.TypeNo.{TypeNo}
@@ -11,7 +11,7 @@ use Rattle.app_model.specs.Parts.{AppParts, ClassParts}
 use Rattle.app_model.specs.Sound.{IsSoundApp}
 use Rattle.class_graph.specs.Walks.{beside, has_kind}
 use Rattle.class_graph.proofs.Beside.{IsBeside, beside_told, one_further}
-use Rattle.class_graph.proofs.Lists.{class_found, class_known, or_left, or_right, read_of, superclass_told, there_at, told_superclass}
+use Rattle.class_graph.proofs.Lists.{class_found, class_known, read_of, superclass_told, there_at, told_superclass}
 
 module _ (app : AppParts) (sound : IsSoundApp app) where
   abbrev classes : List ClassParts

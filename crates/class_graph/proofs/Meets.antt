@@ -2,7 +2,7 @@
 use Rattle.std.proofs.Common.{◌≡◌, ℕ, zero, suc, ◌<◌, ◌≤◌, ◌++◌, ◌||◌, Bool, true, false, cond, List, [], ◌∷◌, length, map, refl, sym, ap₂, ◌∙◌, subst, inl, inr, ⊎_elim, arith, eqb, eq-eqb, Contains, Option, Some, None, slice_get}
 use Rattle.std.specs.Prelude.{◌⊎◌}
 use Rattle.std.specs.List.{IsDistinct, list_any}
-use Rattle.std.proofs.lemmas.Bool.{cases_Bool, eqb-true, false≢true, or_cases}
+use Rattle.std.proofs.lemmas.Bool.{cases_Bool, eqb-true, false≢true, or_cases, or_left, or_right}
 use Rattle.std.proofs.lemmas.Cmp.{nat_eq_equiv}
 use Rattle.std.proofs.lemmas.List.{length-map, map-append}
 use Rattle.std.proofs.lemmas.List.Folds.{list_any-append}
@@ -13,7 +13,7 @@ use Rattle.app_model.specs.Ancestors.{IsParent}
 use Rattle.app_model.specs.Hierarchy.{is_type}
 use Rattle.app_model.specs.Parts.{ClassParts}
 use Rattle.class_graph.specs.Walks.{has_kind, met, met_above, met_all, met_parent}
-use Rattle.class_graph.proofs.Lists.{kind_told, or_left, or_right, read_of, there_at, told_kind}
+use Rattle.class_graph.proofs.Lists.{kind_told, read_of, there_at, told_kind}
 
 abbrev pub numbers : List TypeNo → List ℕ
 numbers kinds = map (λ (t : TypeNo). t.0) kinds

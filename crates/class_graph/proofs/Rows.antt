@@ -1,9 +1,8 @@
 -- Rows of members.
-use Rattle.std.proofs.Common.{◌≡◌, ◌≢◌, ℕ, suc, ◌+◌, ◌<◌, ◌++◌, ◌&&◌, Bool, true, false, cond, List, [], ◌∷◌, length, map, take, refl, sym, ap, ap₂, ◌∙◌, ⊎_elim, arith, eqb, eq-eqb, ◌==◌, Option, Some, None, position, slice_get}
+use Rattle.std.proofs.Common.{◌≡◌, ◌≢◌, ℕ, suc, ◌+◌, ◌<◌, ◌++◌, ◌&&◌, Bool, true, false, cond, List, [], ◌∷◌, length, map, take, refl, sym, ap, ap₂, ◌∙◌, ⊎_elim, arith, eqb, eq-eqb, Option, Some, None, position, slice_get}
 use Rattle.std.specs.Prelude.{not}
 use Rattle.std.specs.List.{position_from}
-use Rattle.std.proofs.lemmas.Bool.{eqb-true, false≢true}
-use Rattle.std.proofs.lemmas.Bool.Decides.{eqb_tells}
+use Rattle.std.proofs.lemmas.Bool.{and_parts, and_right, eqb-true, ne_eqb}
 use Rattle.std.proofs.lemmas.Iterator.Adapters.{position_from-zero}
 use Rattle.std.proofs.lemmas.List.{length-take-le, map-append, take_more}
 use Rattle.std.proofs.lemmas.Option.{get_or_from_slice_get, slice_get_cases, slice_get_within}
@@ -13,9 +12,6 @@ use Rattle.app_model.specs.Hierarchy.{or_else}
 use Rattle.class_graph.specs.declared.members.Member.{Member}
 use Rattle.class_graph.specs.Built.{AreMembers}
 use Rattle.class_graph.specs.Graph.{member_in, member_of, same_member}
-
-not_equal : (a b : ℕ) → a ≢ b → eqb a b ≡ false
-not_equal a b ne = ⊎_elim (λ yes. absurd (ne yes.1)) (λ off. off.0) (eqb_tells a b)
 
 -- ---- the first that passes, with one more at the end
 or_if : (b : Bool) (a : ℕ) (x y z : Option ℕ) → x ≡ or_else y z → cond b (Some a) x ≡ or_else (cond b (Some a) y) z
@@ -37,17 +33,13 @@ or_none (Some n) = refl
 
 -- ---- members with their numbers
 one_member : (a b : Member) → same_member a b ≡ true → b ≡ a
-one_member a b = by (a.class == b.class) (a.name == b.name) (a.second == b.second) refl refl refl
-  where
-    by : (c n s : Bool) → (a.class == b.class) ≡ c → (a.name == b.name) ≡ n → (a.second == b.second) ≡ s → (c && (n && s)) ≡ true → b ≡ a
-    by true true true ec en es e =
-        let class = eqb-true a.class b.class ec in
-        let name = eqb-true a.name b.name en in
-        let second = eqb-true a.second b.second es in
-        rw class (rw name (rw second refl))
-    by true true false ec en es e = absurd (false≢true e)
-    by true false s ec en es e = absurd (false≢true e)
-    by false n s ec en es e = absurd (false≢true e)
+one_member a b e =
+    let own = and_parts _ _ e in
+    let rest = and_parts _ _ own.1 in
+    let class = eqb-true a.class b.class own.0 in
+    let name = eqb-true a.name b.name rest.0 in
+    let second = eqb-true a.second b.second rest.1 in
+    rw class (rw name (rw second refl))
 
 -- the number of an equal member stays
 pub added_one : (old : List (Member × ℕ)) (member : Member) (first n : ℕ) (q : Member) → first ≡ unwrap_or (lookup (same_member member) old) n
@@ -87,22 +79,14 @@ module _ {X : Type 0} (test : (name second c : ℕ) → X → Bool) (xs : List X
 
 -- ---- abstract methods
 pub abstract_off : (a b c : Bool) (n : ℕ) → n ≢ 0 → (a && (b && (c && not (not (eqb n 0))))) ≡ false
-abstract_off a b c n ne = rw (not_equal n 0 ne) (off a b c)
-  where
-    off : (a b c : Bool) → (a && (b && (c && false))) ≡ false
-    off true true true = refl
-    off true true false = refl
-    off true false c = refl
-    off false b c = refl
+abstract_off a b c n ne = and_right a _ (and_right b _ (and_right c _ (rw (ne_eqb n 0 ne) refl)))
 
 pub concrete_on : (a b c : Bool) (n : ℕ) → n ≡ 0 → (a && (b && (c && not (not (eqb n 0))))) ≡ (a && (b && c))
-concrete_on a b c n is = rw (eq-eqb n 0 is) (on a b c)
+concrete_on a b c n is = ap (λ x. a && (b && x)) (rw (eq-eqb n 0 is) (on c))
   where
-    on : (a b c : Bool) → (a && (b && (c && true))) ≡ (a && (b && c))
-    on true true true = refl
-    on true true false = refl
-    on true false c = refl
-    on false b c = refl
+    on : (c : Bool) → (c && true) ≡ c
+    on true = refl
+    on false = refl
 
 -- ---- one more row
 pub map_push : {X Y : Type 0} (f : X → Y) (xs : List X) (n : ℕ) (ys : List Y) (y : Y) → n < length xs → ys ≡ map f (take n xs) → ((x : X) → slice_get xs n ≡ Some x → y ≡ f x)

@@ -2,7 +2,7 @@
 use Rattle.std.proofs.Common.{◌≡◌, ℕ, zero, suc, ◌<◌, ◌≤◌, ◌||◌, ◌&&◌, Bool, true, false, List, [], ◌∷◌, length, refl, sym, ap, ap₂, ◌∙◌, inl, inr, ⊎_elim, arith, eqb, eq-eqb, Contains, Option, Some, None, option_map, position, slice_get, get_or}
 use Rattle.std.specs.Prelude.{◌⊎◌, is_none}
 use Rattle.std.specs.List.{list_any, range_with_len}
-use Rattle.std.proofs.lemmas.Bool.{and_parts, cases_lt, eqb-true, false≢true, or_cases}
+use Rattle.std.proofs.lemmas.Bool.{and_parts, cases_lt, eqb-true, false≢true, or_cases, or_left, or_right}
 use Rattle.std.proofs.lemmas.List.{length-map, take_all}
 use Rattle.std.proofs.lemmas.List.FromFn.{get_or-range_with_len, length-range_with_len}
 use Rattle.std.proofs.lemmas.Option.{slice_get-get_or, slice_get-map, slice_get_past, slice_get_within}
@@ -20,7 +20,7 @@ use Rattle.class_graph.specs.Graph.{GraphParts, class_by, class_in, class_of_par
 use Rattle.class_graph.specs.Walks.{beside, has_kind}
 use Rattle.class_graph.proofs.Beside.{ancestor_below}
 use Rattle.class_graph.proofs.Climbs.{ancestor_found, found_ancestor}
-use Rattle.class_graph.proofs.Lists.{any_found, any_there, class_known, kind_told, or_left, or_right, same_test, superclass_told, told_kind, told_superclass}
+use Rattle.class_graph.proofs.Lists.{any_found, any_there, class_known, kind_told, same_test, superclass_told, told_kind, told_superclass}
 
 -- no class has a type that is not there
 no_class : (app : AppParts) (t : ℕ) → IsSoundApp app → length app.types ≤ t → None ≡ class_of_type app.classes t
