@@ -9,18 +9,18 @@ use Rattle.class_graph.specs.Graph.{GraphParts, line_from, superclass_by}
 use Rattle.class_graph.specs.Walks.{WalkParts, met_from, met_next, with_kinds}
 
 -- a class, or the classes above it
-pub any-step : (test : ℕ → Bool) (graph : GraphParts) (n i c : ℕ) → i < n
+pub any_step : (test : ℕ → Bool) (graph : GraphParts) (n i c : ℕ) → i < n
     → list_any test (line_from graph (n - i) (Some c)) ≡ (test c || list_any test (line_from graph (n - (i + 1)) (superclass_by graph c)))
-any-step test graph n i c below = let e : n - i ≡ suc (n - (i + 1)) = omega arith in rw e refl
+any_step test graph n i c below = let e : n - i ≡ suc (n - (i + 1)) = omega arith in rw e refl
 
-pub nearest-step : (found : ℕ → Option ℕ) (graph : GraphParts) (n i c : ℕ) → i < n
+pub nearest_step : (found : ℕ → Option ℕ) (graph : GraphParts) (n i c : ℕ) → i < n
     → nearest found (line_from graph (n - i) (Some c)) ≡ or_else (found c) (nearest found (line_from graph (n - (i + 1)) (superclass_by graph c)))
-nearest-step found graph n i c below = let e : n - i ≡ suc (n - (i + 1)) = omega arith in rw e refl
+nearest_step found graph n i c below = let e : n - i ≡ suc (n - (i + 1)) = omega arith in rw e refl
 
 -- one place of a walk
-pub walk-step : (classes : List ClassParts) (n i : ℕ) (kinds : List TypeNo) → i < n
+pub walk_step : (classes : List ClassParts) (n i : ℕ) (kinds : List TypeNo) → i < n
     → met_from classes (n - i) i kinds ≡ met_from classes (n - (i + 1)) (i + 1) (met_next classes kinds (slice_get kinds i))
-walk-step classes n i kinds below = let e : n - i ≡ suc (n - (i + 1)) = omega arith in rw e refl
+walk_step classes n i kinds below = let e : n - i ≡ suc (n - (i + 1)) = omega arith in rw e refl
 
 -- a walk past its end
 pub walk_past : (classes : List ClassParts) (n i : ℕ) (kinds : List TypeNo) → length kinds ≤ i → met_from classes n i kinds ≡ kinds

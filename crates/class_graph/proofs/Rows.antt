@@ -4,7 +4,7 @@ use Rattle.std.specs.Prelude.{not}
 use Rattle.std.specs.List.{position_from}
 use Rattle.std.proofs.lemmas.Bool.{and_parts, and_right, eqb-true, ne_eqb}
 use Rattle.std.proofs.lemmas.Iterator.Adapters.{position_from-zero}
-use Rattle.std.proofs.lemmas.List.{length-take-le, map-append, take_more}
+use Rattle.std.proofs.lemmas.List.{length-take-le, map_more, take_more}
 use Rattle.std.proofs.lemmas.Option.{get_or_from_slice_get, slice_get_cases, slice_get_within}
 use Rattle.std.specs.Map.{lookup}
 use Rattle.std.specs.Option.{unwrap_or}
@@ -92,6 +92,5 @@ concrete_on a b c n is = ap (λ x. a && (b && x)) (rw (eq-eqb n 0 is) (on c))
 pub map_push : {X Y : Type 0} (f : X → Y) (xs : List X) (n : ℕ) (ys : List Y) (y : Y) → n < length xs → ys ≡ map f (take n xs) → ((x : X) → slice_get xs n ≡ Some x → y ≡ f x)
     → ys ++ y ∷ [] ≡ map f (take (n + 1) xs)
 map_push {Y = Y} f xs n ys y within before is = ⊎_elim
-    (λ here. ap₂ (λ (zs : List Y) (z : Y). zs ++ z ∷ []) before (is here.0 here.2)
-    ∙ sym (ap (map f) (take_more xs n here.0 within ∙ ap (λ z. take n xs ++ z ∷ []) here.3) ∙ map-append f (take n xs) (here.0 ∷ [])))
+    (λ here. ap₂ (λ (zs : List Y) (z : Y). zs ++ z ∷ []) before (is here.0 here.2 ∙ ap f (sym here.3)) ∙ sym (map_more f xs n _ within))
     (λ past. absurd (omega (arith, within, past.0))) (slice_get_cases xs n).1

@@ -124,6 +124,7 @@ impl ClassGraph {
     }
 
     // A class, or one of the application above it, has the type above it.
+    #[tactic(auto, using(crate::proofs::Lines::any_step))]
     fn line_stands(&self, from: Option<ClassNo>, kind: TypeNo) -> bool
         ensures { result ≡ list_any (stands_by self.now kind.0) (line_by self.now (option_map (λ (c : ClassNo). c.0) from)) }
     {
@@ -140,6 +141,7 @@ impl ClassGraph {
         false
     }
 
+    #[tactic(auto, using(crate::proofs::Lines::any_step))]
     fn line_leads(&self, from: Option<ClassNo>) -> bool
         ensures { result ≡ list_any (leads_by self.now) (line_by self.now (option_map (λ (c : ClassNo). c.0) from)) }
     {
@@ -179,6 +181,7 @@ impl ClassGraph {
         self.sub(kind, of) || (self.class_of_type(of).is_none() && self.unknown_above(kind))
     }
 
+    #[tactic(auto, using(crate::proofs::Lines::nearest_step))]
     fn nearest(
         &self,
         members: &Members,
