@@ -82,6 +82,7 @@ fn build_parts(alloc: Global, app: &App) -> Result<ClassGraph, AllocError>
 }
 
 /// The class hierarchy of an application.
+#[tactic(auto, using(crate::proofs::Tells::answers_so))]
 pub fn build(alloc: Global, app: &App) -> Result<ClassGraph, OutOfMemory>
     ensures { IfOk result (IsClassGraph app.now) }
 {
