@@ -42,7 +42,6 @@ module _ (app : AppParts) (sound : IsSoundApp app) (graph : GraphParts) (built :
 
   -- ---- rows
   class_same : (t : ℕ) → class_by graph.kinds t ≡ class_of_type classes t
-  unfolding class_by
   class_same t = ⊎_elim
       (λ (lt : t < length graph.kinds). let e = slice_get-get_or graph.kinds t (record { class = None; unknown = false }) lt in ap class_in e ∙ (built.kinds.each t _ e).class)
       (λ (past : length graph.kinds ≤ t). ap class_in (slice_get_past graph.kinds t past) ∙ no_class app t sound (omega (arith, past, built.kinds.len)))
@@ -52,7 +51,7 @@ module _ (app : AppParts) (sound : IsSoundApp app) (graph : GraphParts) (built :
   above_same c = ap (λ rows. slice_get rows c) built.above ∙ slice_get-map (above_of app) classes c
 
   superclass_same : (c : ℕ) → superclass_by graph c ≡ superclass_at classes c
-  unfolding superclass_by superclass_at above_of
+  unfolding superclass_at above_of
   superclass_same c = ap (superclass_in graph.kinds) (above_same c) ∙ go (slice_get classes c)
     where
       parent_same : (parent : Option TypeNo) → class_of_parent_by graph.kinds parent ≡ class_of_parent classes parent
@@ -76,14 +75,13 @@ module _ (app : AppParts) (sound : IsSoundApp app) (graph : GraphParts) (built :
 
   -- ---- subtypes
   stands_told : (b c : ℕ) (class : ClassParts) → slice_get classes c ≡ Some class → stands_by graph b c ≡ (is_superclass class.parent b || has_kind (beside app class) b)
-  unfolding stands_by above_of
+  unfolding above_of
   stands_told b c class e = ap (λ o. stands_in o b) (above_same c ∙ ap (option_map (above_of app)) e)
 
   any_stands : (a b : ℕ) → list_any (stands_by graph b) (line_from graph (length graph.above) (class_by graph.kinds a)) ≡ list_any (stands_by graph b) (line classes (length classes) (class_of_type classes a))
   any_stands a b = ap (λ o. list_any (stands_by graph b) (line_from graph (length graph.above) o)) (class_same a) ∙ ap (list_any (stands_by graph b)) (lines (class_of_type classes a))
 
   sub_same : (a b : ℕ) → sub_by graph a b ≡ is_sub app a b
-  unfolding sub_by
   sub_same a b =
       let law = subtypes_told app sound.ranges a b in
       same_test _ _
@@ -92,7 +90,7 @@ module _ (app : AppParts) (sound : IsSoundApp app) (graph : GraphParts) (built :
 
   -- ---- types of which the files say nothing
   leads_told : (c : ℕ) (class : ClassParts) → slice_get classes c ≡ Some class → leads_by graph c ≡ (is_unknown_parent app class.parent || has_unknown app (beside app class))
-  unfolding leads_by above_of
+  unfolding above_of
   leads_told c class e = ap leads_in (above_same c ∙ ap (option_map (above_of app)) e)
 
   unknown_told : (t : ℕ) → is_unknown_kind (slice_get graph.kinds t) ≡ true → (t < length app.types) × (is_unknown app t ≡ true)
@@ -109,7 +107,6 @@ module _ (app : AppParts) (sound : IsSoundApp app) (graph : GraphParts) (built :
 
   -- a row leads to what the files say nothing of, where one of its types is such
   leads_there : (u c : ℕ) → is_unknown app u ≡ true → stands_by graph u c ≡ true → leads_by graph c ≡ true
-  unfolding stands_by
   leads_there u c un e = go (slice_get classes c) refl
     where
       parent : (parent : Option TypeNo) → parent ≡ Some (record { 0 = u }) → is_unknown_parent app parent ≡ true
@@ -126,7 +123,6 @@ module _ (app : AppParts) (sound : IsSoundApp app) (graph : GraphParts) (built :
       go (Some class) f = leads_told c class f ∙ row class (sym (stands_told u c class f) ∙ e)
 
   there_leads : (c : ℕ) → leads_by graph c ≡ true → (u : ℕ) × (is_unknown app u ≡ true) × (stands_by graph u c ≡ true)
-  unfolding leads_by
   there_leads c e = go (slice_get classes c) refl
     where
       parent : (class : ClassParts) → slice_get classes c ≡ Some class → (parent : Option TypeNo) → class.parent ≡ parent → is_unknown_parent app parent ≡ true → (u : ℕ) × (is_unknown app u ≡ true) × (stands_by graph u c ≡ true)
@@ -158,7 +154,7 @@ module _ (app : AppParts) (sound : IsSoundApp app) (graph : GraphParts) (built :
   test t u = is_sub app t u && is_unknown app u
 
   unknown_same : (t : ℕ) → unknown_by graph t ≡ has_unknown_above app t
-  unfolding unknown_by has_unknown_above
+  unfolding has_unknown_above
   unknown_same t = same_test _ _ forth back
     where
       found : (u : ℕ) → u < length app.types → ((t ≡ u) ⊎ IsAncestor classes t u) → is_unknown app u ≡ true → list_any (test t) all_types ≡ true
@@ -185,7 +181,7 @@ module _ (app : AppParts) (sound : IsSoundApp app) (graph : GraphParts) (built :
           ((subtypes_told app sound.ranges t u.0).0 parts.0)
 
   may_be_same : (t c : ℕ) → may_be_by graph t c ≡ may_be_sub app (Some t) c
-  unfolding may_be_by may_be_sub
+  unfolding may_be_sub
   may_be_same t c = ap₂ (λ x y. x || y) (sub_same t c) (ap₂ (λ x y. x && y) (ap is_none (class_same c)) (unknown_same t))
 
   -- ---- members
@@ -198,13 +194,13 @@ module _ (app : AppParts) (sound : IsSoundApp app) (graph : GraphParts) (built :
   field_found name kind c = built.fields name kind c ∙ ap (position _) (take_all (length app.fields) app.fields (omega arith))
 
   method_same : (c : ℕ) (class : ClassParts) (name proto : ℕ) → slice_get classes c ≡ Some class → method_by graph c name proto ≡ lookup_of app class.name.0 name proto
-  unfolding method_by lookup_of line_of
+  unfolding lookup_of line_of
   method_same c class name proto e =
       nearest_same _ _ (line_from graph (length graph.above) (Some c)) (method_found name proto)
       ∙ ap (nearest (method_in app name proto)) (lines (Some c) ∙ ap (line classes (length classes)) (sym (class_known app sound c class e)))
 
   field_same : (t name kind : ℕ) → field_by graph t name kind ≡ resolve_field_of app t name kind
-  unfolding field_by resolve_field_of line_of
+  unfolding resolve_field_of line_of
   field_same t name kind =
       nearest_same _ _ (line_from graph (length graph.above) (class_by graph.kinds t)) (field_found name kind)
       ∙ ap (nearest (field_in app name kind)) (lines (class_by graph.kinds t) ∙ ap (line classes (length classes)) (class_same t))

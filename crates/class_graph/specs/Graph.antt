@@ -26,7 +26,7 @@ abbrev pub class_in : Option KindRow → Option ℕ
 class_in None = None
 class_in (Some kind) = option_map (λ (c : ClassNo). c.0) kind.class
 
-unfoldable pub class_by : List KindRow → ℕ → Option ℕ
+abbrev pub class_by : List KindRow → ℕ → Option ℕ
 class_by kinds t = class_in (slice_get kinds t)
 
 abbrev pub class_of_parent_by : List KindRow → Option TypeNo → Option ℕ
@@ -37,7 +37,7 @@ abbrev pub superclass_in : List KindRow → Option AboveParts → Option ℕ
 superclass_in kinds None = None
 superclass_in kinds (Some above) = class_of_parent_by kinds above.parent
 
-unfoldable pub superclass_by : GraphParts → ℕ → Option ℕ
+abbrev pub superclass_by : GraphParts → ℕ → Option ℕ
 superclass_by graph c = superclass_in graph.kinds (slice_get graph.above c)
 
 abbrev pub line_from : GraphParts → ℕ → Option ℕ → List ℕ
@@ -53,10 +53,10 @@ abbrev pub stands_in : Option AboveParts → ℕ → Bool
 stands_in None u = false
 stands_in (Some above) u = is_superclass above.parent u || list_any (is_type u) above.kinds
 
-unfoldable pub stands_by : GraphParts → (u c : ℕ) → Bool
+abbrev pub stands_by : GraphParts → (u c : ℕ) → Bool
 stands_by graph u c = stands_in (slice_get graph.above c) u
 
-unfoldable pub sub_by : GraphParts → (a b : ℕ) → Bool
+abbrev pub sub_by : GraphParts → (a b : ℕ) → Bool
 sub_by graph a b = (a == b) || list_any (stands_by graph b) (line_by graph (class_by graph.kinds a))
 
 abbrev pub is_unknown_kind : Option KindRow → Bool
@@ -67,13 +67,13 @@ abbrev pub leads_in : Option AboveParts → Bool
 leads_in None = false
 leads_in (Some above) = above.unknown
 
-unfoldable pub leads_by : GraphParts → ℕ → Bool
+abbrev pub leads_by : GraphParts → ℕ → Bool
 leads_by graph c = leads_in (slice_get graph.above c)
 
-unfoldable pub unknown_by : GraphParts → ℕ → Bool
+abbrev pub unknown_by : GraphParts → ℕ → Bool
 unknown_by graph t = is_unknown_kind (slice_get graph.kinds t) || list_any (leads_by graph) (line_by graph (class_by graph.kinds t))
 
-unfoldable pub may_be_by : GraphParts → (t c : ℕ) → Bool
+abbrev pub may_be_by : GraphParts → (t c : ℕ) → Bool
 may_be_by graph t c = sub_by graph t c || (is_none (class_by graph.kinds c) && unknown_by graph t)
 
 -- ---- members
@@ -87,8 +87,8 @@ member_of name second c = record { class = c; name = name; second = second }
 abbrev pub member_in : List (Member × ℕ) → (name second c : ℕ) → Option ℕ
 member_in members name second c = lookup (same_member (member_of name second c)) members
 
-unfoldable pub method_by : GraphParts → (c name proto : ℕ) → Option ℕ
+abbrev pub method_by : GraphParts → (c name proto : ℕ) → Option ℕ
 method_by graph c name proto = nearest (member_in graph.methods name proto) (line_by graph (Some c))
 
-unfoldable pub field_by : GraphParts → (t name kind : ℕ) → Option ℕ
+abbrev pub field_by : GraphParts → (t name kind : ℕ) → Option ℕ
 field_by graph t name kind = nearest (member_in graph.fields name kind) (line_by graph (class_by graph.kinds t))
