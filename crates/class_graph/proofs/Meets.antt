@@ -63,14 +63,12 @@ module _ (kinds : List TypeNo) (t : TypeNo) where
   longer_has u = list_any-append (is_type u) kinds (t ∷ [])
 
   pub has_met : has_kind (met kinds t) t.0 ≡ true
-  unfolding met
   has_met = ⊎_elim
       (λ e. rw e e)
       (λ e. rw e (longer_has t.0 ∙ or_right (has_kind kinds t.0) (eqb t.0 t.0 || false) (or_left (eqb t.0 t.0) false (eq-eqb t.0 t.0 refl))))
       (cases_Bool (has_kind kinds t.0))
 
   pub grown_met : (P : ℕ → Type 0) → P t.0 → Grown P kinds (met kinds t)
-  unfolding met
   grown_met P p = go (has_kind kinds t.0) refl
     where
       go : (b : Bool) → has_kind kinds t.0 ≡ b → Grown P kinds (cond b kinds longer)

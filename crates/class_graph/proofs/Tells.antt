@@ -51,7 +51,7 @@ module _ (app : AppParts) (sound : IsSoundApp app) (graph : GraphParts) (built :
   above_same c = ap (λ rows. slice_get rows c) built.above ∙ slice_get-map (above_of app) classes c
 
   superclass_same : (c : ℕ) → superclass_by graph c ≡ superclass_at classes c
-  unfolding superclass_at above_of
+  unfolding superclass_at
   superclass_same c = ap (superclass_in graph.kinds) (above_same c) ∙ go (slice_get classes c)
     where
       parent_same : (parent : Option TypeNo) → class_of_parent_by graph.kinds parent ≡ class_of_parent classes parent
@@ -75,7 +75,6 @@ module _ (app : AppParts) (sound : IsSoundApp app) (graph : GraphParts) (built :
 
   -- ---- subtypes
   stands_told : (b c : ℕ) (class : ClassParts) → slice_get classes c ≡ Some class → stands_by graph b c ≡ (is_superclass class.parent b || has_kind (beside app class) b)
-  unfolding above_of
   stands_told b c class e = ap (λ o. stands_in o b) (above_same c ∙ ap (option_map (above_of app)) e)
 
   any_stands : (a b : ℕ) → list_any (stands_by graph b) (line_from graph (length graph.above) (class_by graph.kinds a)) ≡ list_any (stands_by graph b) (line classes (length classes) (class_of_type classes a))
@@ -90,7 +89,6 @@ module _ (app : AppParts) (sound : IsSoundApp app) (graph : GraphParts) (built :
 
   -- ---- types of which the files say nothing
   leads_told : (c : ℕ) (class : ClassParts) → slice_get classes c ≡ Some class → leads_by graph c ≡ (is_unknown_parent app class.parent || has_unknown app (beside app class))
-  unfolding above_of
   leads_told c class e = ap leads_in (above_same c ∙ ap (option_map (above_of app)) e)
 
   unknown_told : (t : ℕ) → is_unknown_kind (slice_get graph.kinds t) ≡ true → (t < length app.types) × (is_unknown app t ≡ true)

@@ -29,7 +29,7 @@ is_unknown_parent app (Some t) = is_unknown app t.0
 abbrev pub has_unknown : AppParts → List TypeNo → Bool
 has_unknown app kinds = list_any (λ (t : TypeNo). is_unknown app t.0) kinds
 
-unfoldable pub above_of : AppParts → ClassParts → AboveParts
+abbrev pub above_of : AppParts → ClassParts → AboveParts
 above_of app class = record { parent = class.parent; kinds = beside app class; unknown = is_unknown_parent app class.parent || has_unknown app (beside app class) }
 
 -- ---- members among the first n

@@ -107,7 +107,6 @@ fn meet_rest(alloc: Global, app: &App, walk: &mut Walk) -> Result<(), AllocError
 }
 
 // The interfaces of a class, and all types above them.
-#[tactic(auto, unfolding(crate::specs::Walks::beside))]
 fn walk_beside(alloc: Global, app: &App, walk: &mut Walk, class: ClassNo) -> Result<(), AllocError>
     requires class { class.0 < length app.now.classes }
     requires types { walk.old.types ≡ length app.now.types }
@@ -121,7 +120,6 @@ fn walk_beside(alloc: Global, app: &App, walk: &mut Walk, class: ClassNo) -> Res
     meet_rest(alloc, app, walk)
 }
 
-#[tactic(auto, unfolding(crate::specs::Built::above_of))]
 fn above_row(
     alloc: Global,
     app: &App,
