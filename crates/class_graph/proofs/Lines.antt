@@ -1,12 +1,18 @@
 -- Loops up the superclasses, and along lists.
-use Rattle.std.proofs.Common.{◌≡◌, ℕ, zero, suc, ◌+◌, ◌-◌, ◌<◌, ◌≤◌, ◌||◌, Bool, List, length, refl, arith, ◌∙◌, ap, sym, Option, Some, slice_get}
+use Rattle.std.proofs.Common.{◌≡◌, ℕ, zero, suc, ◌+◌, ◌-◌, ◌<◌, ◌≤◌, ◌||◌, Bool, List, length, refl, arith, ◌∙◌, ap, sym, Option, Some, option_map, slice_get}
 use Rattle.std.specs.List.{list_any}
 use Rattle.std.proofs.lemmas.Option.{slice_get_past}
+use Rattle.ns_base.specs.declared.rows.ClassNo.{ClassNo}
 use Rattle.ns_base.specs.declared.rows.TypeNo.{TypeNo}
 use Rattle.app_model.specs.Hierarchy.{nearest, or_else}
 use Rattle.app_model.specs.Parts.{ClassParts}
-use Rattle.class_graph.specs.Graph.{GraphParts, line_from, superclass_by}
+use Rattle.class_graph.specs.Graph.{GraphParts, line_by, line_from, superclass_by}
 use Rattle.class_graph.specs.Walks.{WalkParts, met_from, met_next, with_kinds}
+
+-- a search along the line of a class has the same answer from the class reached on
+abbrev pub SearchesOn : {A : Type 0} → (search : List ℕ → A) → GraphParts → (from here : Option ClassNo) → (step : ℕ) → Type 0
+SearchesOn search graph from here step =
+    search (line_by graph (option_map (λ (c : ClassNo). c.0) from)) ≡ search (line_from graph (length graph.above - step) (option_map (λ (c : ClassNo). c.0) here))
 
 -- a class, or the classes above it
 pub any_step : (test : ℕ → Bool) (graph : GraphParts) (n i c : ℕ) → i < n

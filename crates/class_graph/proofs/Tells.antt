@@ -5,7 +5,7 @@ use Rattle.std.specs.List.{list_any, range_with_len}
 use Rattle.std.proofs.lemmas.Bool.{and_parts, cases_lt, eqb-true, false≢true, or_cases, or_left, or_right}
 use Rattle.std.proofs.lemmas.List.{length-map, take_all}
 use Rattle.std.proofs.lemmas.List.FromFn.{get_or-range_with_len, length-range_with_len}
-use Rattle.std.proofs.lemmas.Option.{slice_get-get_or, slice_get-map, slice_get_past, slice_get_within}
+use Rattle.std.proofs.lemmas.Option.{slice_get-get_or, slice_get-map, slice_get_past}
 use Rattle.ns_base.specs.declared.rows.TypeNo.{TypeNo}
 use Rattle.app_model.specs.Ancestors.{IsAncestor}
 use Rattle.app_model.specs.Hierarchy.{class_of_parent, class_of_type, field_in, has_unknown_above, is_sub, is_superclass, is_unknown, line, line_of, lookup_of, may_be_sub, method_in, nearest, or_else, parent_of, resolve_field_of, superclass_at}
@@ -13,7 +13,6 @@ use Rattle.app_model.specs.Parts.{AppParts, ClassParts}
 use Rattle.app_model.specs.Sound.{IsSoundApp}
 use Rattle.app_model.proofs.HierarchyLaws.{subtypes_told}
 use Rattle.app_model.proofs.TypeIndex.{class_none}
-use Rattle.class_graph.specs.declared.kinds.KindRow.{KindRow}
 use Rattle.class_graph.specs.Belongs.{IsClassGraph}
 use Rattle.class_graph.specs.Built.{IsBuilt, above_of, has_unknown, is_unknown_parent}
 use Rattle.class_graph.specs.Graph.{GraphParts, class_by, class_in, class_of_parent_by, field_by, is_unknown_kind, leads_by, leads_in, line_from, may_be_by, member_in, method_by, stands_by, stands_in, sub_by, superclass_by, superclass_in, unknown_by}
@@ -91,17 +90,17 @@ module _ (app : AppParts) (sound : IsSoundApp app) (graph : GraphParts) (built :
   leads_told : (c : ℕ) (class : ClassParts) → slice_get classes c ≡ Some class → leads_by graph c ≡ (is_unknown_parent app class.parent || has_unknown app (beside app class))
   leads_told c class e = ap leads_in (above_same c ∙ ap (option_map (above_of app)) e)
 
+  row_unknown : (t : ℕ) → t < length graph.kinds → is_unknown_kind (slice_get graph.kinds t) ≡ is_unknown app t
+  row_unknown t lt = let f = slice_get-get_or graph.kinds t (record { class = None; unknown = false }) lt in ap is_unknown_kind f ∙ (built.kinds.each t _ f).unknown
+
   unknown_told : (t : ℕ) → is_unknown_kind (slice_get graph.kinds t) ≡ true → (t < length app.types) × (is_unknown app t ≡ true)
-  unknown_told t e = go (slice_get graph.kinds t) refl e
-    where
-      go : (o : Option KindRow) → slice_get graph.kinds t ≡ o → is_unknown_kind o ≡ true → (t < length app.types) × (is_unknown app t ≡ true)
-      go None f g = absurd (false≢true g)
-      go (Some kind) f g = (omega (arith, slice_get_within graph.kinds t kind f, built.kinds.len), sym (built.kinds.each t kind f).unknown ∙ g)
+  unknown_told t e = ⊎_elim
+      (λ (lt : t < length graph.kinds). (omega (arith, lt, built.kinds.len), sym (row_unknown t lt) ∙ e))
+      (λ (past : length graph.kinds ≤ t). absurd (false≢true (sym (ap is_unknown_kind (slice_get_past graph.kinds t past)) ∙ e)))
+      (cases_lt t (length graph.kinds))
 
   told_unknown : (t : ℕ) → t < length app.types → is_unknown app t ≡ true → is_unknown_kind (slice_get graph.kinds t) ≡ true
-  told_unknown t lt e =
-      let f = slice_get-get_or graph.kinds t (record { class = None; unknown = false }) (omega (arith, lt, built.kinds.len)) in
-      ap is_unknown_kind f ∙ (built.kinds.each t _ f).unknown ∙ e
+  told_unknown t lt e = row_unknown t (omega (arith, lt, built.kinds.len)) ∙ e
 
   -- a row leads to what the files say nothing of, where one of its types is such
   leads_there : (u c : ℕ) → is_unknown app u ≡ true → stands_by graph u c ≡ true → leads_by graph c ≡ true
