@@ -1,13 +1,13 @@
--- Rows of members.
+-- Members with their numbers, and rows that grow.
 use Rattle.std.proofs.Common.{◌≡◌, ◌≢◌, ℕ, suc, ◌+◌, ◌<◌, ◌++◌, ◌&&◌, Bool, true, false, cond, List, [], ◌∷◌, length, map, take, refl, sym, ap, ap₂, ◌∙◌, ⊎_elim, arith, eqb, eq-eqb, Option, Some, None, position, slice_get}
 use Rattle.std.specs.Prelude.{not}
 use Rattle.std.specs.List.{position_from}
+use Rattle.std.specs.Map.{lookup}
+use Rattle.std.specs.Option.{unwrap_or}
 use Rattle.std.proofs.lemmas.Bool.{and_parts, and_right, eqb-true, ne_eqb}
 use Rattle.std.proofs.lemmas.Iterator.Adapters.{position_from-zero}
 use Rattle.std.proofs.lemmas.List.{length-take-le, map_more, take_more}
 use Rattle.std.proofs.lemmas.Option.{get_or_from_slice_get, slice_get_cases, slice_get_within}
-use Rattle.std.specs.Map.{lookup}
-use Rattle.std.specs.Option.{unwrap_or}
 use Rattle.app_model.specs.Hierarchy.{or_else}
 use Rattle.class_graph.specs.declared.members.Member.{Member}
 use Rattle.class_graph.specs.Built.{AreMembers}
