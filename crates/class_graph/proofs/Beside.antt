@@ -143,7 +143,6 @@ module _ (app : AppParts) (sound : IsSoundApp app) where
     inside there i c = kept P first all (ends there).grown i.0 (has_all [] class.interfaces i c)
 
     pub beside_told : (u : ℕ) → Contains classes class → (has_kind (beside app class) u ≡ true) ↔ IsBeside classes class u
-    unfolding beside
     beside_told u there = (
       λ h. ⊎_elim (such u) (λ p. p) ((ends there).grown.only u h),
       λ b. ⊎_elim (λ e. rw (← e) (inside there b.0 b.1)) (λ a. reaches all (ends there).closed b.0.0 u a (inside there b.0 b.1)) b.2,

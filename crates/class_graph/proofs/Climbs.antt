@@ -1,7 +1,7 @@
 -- The classes above one are fewer than there are classes, and what stands above a type is found on the way up.
 use Rattle.std.proofs.Common.{◌≡◌, ℕ, zero, suc, ◌<◌, ◌≤◌, ◌||◌, Bool, true, false, List, [], ◌∷◌, length, refl, sym, ap, ◌∙◌, subst, inl, inr, ⊎_elim, arith, eqb, Contains, Option, Some, None, slice_get}
 use Rattle.std.specs.List.{AllByRecursion, IsDistinct, list_any}
-use Rattle.std.proofs.lemmas.Bool.{cases_Bool, eqb-true, false≢true, or_cases}
+use Rattle.std.proofs.lemmas.Bool.{cases_Bool, eqb-true, false≢true, or_cases, or_left, or_right}
 use Rattle.std.proofs.lemmas.Map.Steps.{length-le_from_distinct_below}
 use Rattle.std.proofs.lemmas.Option.{slice_get_within}
 use Rattle.ns_base.specs.declared.rows.TypeNo.{TypeNo}
@@ -11,7 +11,7 @@ use Rattle.app_model.specs.Parts.{AppParts, ClassParts}
 use Rattle.app_model.specs.Sound.{IsSoundApp}
 use Rattle.class_graph.specs.Walks.{beside, has_kind}
 use Rattle.class_graph.proofs.Beside.{IsBeside, beside_told, one_further}
-use Rattle.class_graph.proofs.Lists.{class_found, class_known, or_left, or_right, read_of, superclass_told, there_at, told_superclass}
+use Rattle.class_graph.proofs.Lists.{class_found, class_known, read_of, superclass_told, there_at, told_superclass}
 
 module _ (app : AppParts) (sound : IsSoundApp app) where
   abbrev classes : List ClassParts
@@ -46,29 +46,24 @@ module _ (app : AppParts) (sound : IsSoundApp app) where
   abbrev Up : ℕ → ℕ → Type 0
   Up t d = (class : ClassParts) × (slice_get classes d ≡ Some class) × IsAncestor classes t class.name.0
 
-  above_each : (n : ℕ) (t : ℕ) (o : Option ℕ) → ((d : ℕ) → o ≡ Some d → Up t d) → AllByRecursion (Up t) (line classes n o)
-  above_each zero t o h = tt
-  above_each (suc n) t None h = tt
-  above_each (suc n) t (Some d) h = (h d refl, above_each n t (superclass_at classes d) next)
-    where
-      next : (e : ℕ) → superclass_at classes d ≡ Some e → Up t e
-      next e f =
-          let own = h d refl in
-          let s = step_up d e f in
-          let same : own.0 ≡ s.0 = (let a = own.1 in let b = s.1 in cc) in
-          let found = class_found classes s.2.0 e s.4 in
-          (found.0, found.1, rw found.2 (one_further classes own.0 t own.0.name.0 s.2.0 own.2 refl (there_at classes d own.0 own.1) (inl (rw same s.3))))
+  -- what holds on each step up holds along the line
+  each_up : (P : ℕ → Type 0) → ((c d : ℕ) → P c → superclass_at classes c ≡ Some d → P d) → (n : ℕ) (o : Option ℕ) → ((d : ℕ) → o ≡ Some d → P d) → AllByRecursion P (line classes n o)
+  each_up P up zero o h = tt
+  each_up P up (suc n) None h = tt
+  each_up P up (suc n) (Some c) h = (h c refl, each_up P up n (superclass_at classes c) (λ d. up c d (h c refl)))
+
+  next_up : (t c d : ℕ) → Up t c → superclass_at classes c ≡ Some d → Up t d
+  next_up t c d own f =
+      let s = step_up c d f in
+      let same : own.0 ≡ s.0 = (let a = own.1 in let b = s.1 in cc) in
+      let found = class_found classes s.2.0 d s.4 in
+      (found.0, found.1, rw found.2 (one_further classes own.0 t own.0.name.0 s.2.0 own.2 refl (there_at classes c own.0 own.1) (inl (rw same s.3))))
 
   abbrev Within : Option ℕ → Type 0
   Within o = (d : ℕ) → o ≡ Some d → d < length classes
 
   within_type : (t : ℕ) → Within (class_of_type classes t)
   within_type t d e = let found = class_found classes t d e in slice_get_within classes d found.0 found.1
-
-  all_within : (n : ℕ) (o : Option ℕ) → Within o → AllByRecursion (λ d. d < length classes) (line classes n o)
-  all_within zero o h = tt
-  all_within (suc n) None h = tt
-  all_within (suc n) (Some c) h = (h c refl, all_within n (superclass_at classes c) (λ d e. let s = step_up c d e in within_type s.2.0 d s.4))
 
   all_any : (P : ℕ → Type 0) (xs : List ℕ) → AllByRecursion P xs → (q : ℕ) → list_any (eqb q) xs ≡ true → P q
   all_any P [] h q e = absurd (false≢true e)
@@ -93,7 +88,7 @@ module _ (app : AppParts) (sound : IsSoundApp app) where
           (λ same. absurd (let is : up.0 ≡ s.0 = (let a = up.1 in let b = s.1 in let f = eqb-true c x same in cc) in
           sound.acyclic c s.0 s.1 (subst (λ (k : ClassParts). IsAncestor classes s.0.name.0 k.name.0) is up.2)))
           (λ off. off) (cases_Bool (eqb c x)))
-          (above_each n s.0.name.0 (Some d)
+          (each_up (Up s.0.name.0) (next_up s.0.name.0) n (Some d)
           (λ x f. let same : d ≡ x = cc in rw (← same) (found.0, found.1, its_parent {u = found.0.name.0} s.0 there refl (inl (rw found.2 s.3)))))
 
   distinct : (n : ℕ) (o : Option ℕ) → IsDistinct eqb (line classes n o)
@@ -112,7 +107,7 @@ module _ (app : AppParts) (sound : IsSoundApp app) where
   enough : (o : Option ℕ) → Within o → line classes (suc (length classes)) o ≡ line classes (length classes) o
   enough o h =
       short (length classes) o
-      (length-le_from_distinct_below _ (length classes) (distinct (suc (length classes)) o) (all_any (λ d. d < length classes) _ (all_within (suc (length classes)) o h)))
+      (length-le_from_distinct_below _ (length classes) (distinct (suc (length classes)) o) (all_any (λ d. d < length classes) _ (each_up (λ d. d < length classes) (λ c d lt e. let s = step_up c d e in within_type s.2.0 d s.4) (suc (length classes)) o h)))
 
   -- ---- a test of classes that tells whether b is a parent of one, or stands above an interface of it
   module _ (b : ℕ) (test : ℕ → Bool) (told : (c : ℕ) (class : ClassParts) → slice_get classes c ≡ Some class → test c ≡ (is_superclass class.parent b || has_kind (beside app class) b)) where

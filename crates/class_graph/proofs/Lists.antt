@@ -1,7 +1,6 @@
 -- Elements, tests on lists, and classes by their types.
-use Rattle.std.proofs.Common.{◌≡◌, ℕ, zero, suc, ◌+◌, ◌<◌, ◌≤◌, ◌||◌, Bool, true, false, cond, List, [], ◌∷◌, get_or, map, refl, sym, ap, ◌∙◌, subst, ⊎_elim, arith, eqb, eq-eqb, Contains, Option, Some, None, position, slice_get}
-use Rattle.std.specs.List.{list_any, position_from}
-use Rattle.std.proofs.lemmas.Iterator.Adapters.{position_from-zero}
+use Rattle.std.proofs.Common.{◌≡◌, ℕ, ◌<◌, ◌≤◌, Bool, true, false, List, [], get_or, map, refl, sym, ap, ◌∙◌, subst, ⊎_elim, arith, eqb, eq-eqb, Contains, Option, Some, None, slice_get}
+use Rattle.std.specs.List.{list_any}
 use Rattle.std.proofs.lemmas.Bool.{eqb-true, cases_lt, false≢true}
 use Rattle.std.proofs.lemmas.List.{get_or-map, length-map}
 use Rattle.std.proofs.lemmas.List.Folds.{list_any_at, Any-from_list_any}
@@ -11,20 +10,13 @@ use Rattle.ns_base.specs.declared.rows.TypeNo.{TypeNo}
 use Rattle.app_model.specs.Hierarchy.{class_of_type, is_superclass, is_type}
 use Rattle.app_model.specs.Parts.{AppParts, ClassParts}
 use Rattle.app_model.specs.Sound.{IsSoundApp}
+use Rattle.app_model.proofs.TypeIndex.{class_here}
 use Rattle.class_graph.specs.Walks.{has_kind}
 
 pub same_test : (x y : Bool) → (x ≡ true → y ≡ true) → (y ≡ true → x ≡ true) → x ≡ y
 same_test true y f g = sym (f refl)
 same_test false true f g = g refl
 same_test false false f g = refl
-
-pub or_left : (x y : Bool) → x ≡ true → (x || y) ≡ true
-or_left true y e = refl
-or_left false y e = absurd (false≢true e)
-
-pub or_right : (x y : Bool) → y ≡ true → (x || y) ≡ true
-or_right true y e = refl
-or_right false y e = e
 
 -- ---- elements by place
 pub read_of : {X : Type 0} (xs : List X) (x : X) → Contains xs x → (k : ℕ) × (slice_get xs k ≡ Some x)
@@ -59,19 +51,6 @@ told_superclass parent u e = rw e (eq-eqb u u refl)
 -- ---- classes by type
 abbrev named : ℕ → ClassParts → Bool
 named t class = eqb class.name.0 t
-
-from_none : {X : Type 0} (p : X → Bool) (i : ℕ) (xs : List X) (k : ℕ) (x : X) → position_from p i xs ≡ None → slice_get xs k ≡ Some x → p x ≡ false
-from_none p i [] k x f e = absurd (cc)
-from_none p i (y ∷ xs) zero x f e = go (p y) refl f
-  where
-    go : (b : Bool) → p y ≡ b → cond b (Some i) (position_from p (i + 1) xs) ≡ None → p x ≡ false
-    go true q g = absurd (cc)
-    go false q g = let is : y ≡ x = cc in rw (← is) q
-from_none p i (y ∷ xs) (suc k) x f e = from_none p (i + 1) xs k x (go (p y) f) e
-  where
-    go : (b : Bool) → cond b (Some i) (position_from p (i + 1) xs) ≡ None → position_from p (i + 1) xs ≡ None
-    go true g = absurd (cc)
-    go false g = g
 
 -- the class that is found
 pub class_found : (classes : List ClassParts) (t c : ℕ) → class_of_type classes t ≡ Some c → (class : ClassParts) × (slice_get classes c ≡ Some class) × (class.name.0 ≡ t)
@@ -109,9 +88,8 @@ module _ (app : AppParts) (sound : IsSoundApp app) where
       cc (ap (slice_get classes) place)
 
   pub class_known : (c : ℕ) (class : ClassParts) → slice_get classes c ≡ Some class → class_of_type classes class.name.0 ≡ Some c
-  unfolding class_of_type
-  class_known c class e = go (position (named class.name.0) classes) refl
-    where
-      go : (o : Option ℕ) → position (named class.name.0) classes ≡ o → o ≡ Some c
-      go (Some d) f = let g = class_found classes class.name.0 d f in ap Some (one_class d c g.0 class g.1 e g.2)
-      go None f = absurd (false≢true (sym (from_none (named class.name.0) 0 classes c class (sym (position_from-zero (named class.name.0) classes) ∙ f) e) ∙ eq-eqb class.name.0 class.name.0 refl))
+  class_known c class e =
+      let below = slice_get_within classes c class e in
+      sym (class_here classes class.name.0 c class below
+      (λ k lt same. absurd (let once = one_class k c (get_or classes k class) class (slice_get-get_or classes k class (omega (arith, lt, below))) e same in omega (arith, lt, once)))
+      (ap (λ (d : ClassParts). d.name.0) (get_or_from_slice_get classes c class class e)))

@@ -2,7 +2,7 @@
 use Rattle.std.proofs.Common.{◌≡◌, ℕ, zero, suc, ◌<◌, ◌≤◌, ◌++◌, ◌||◌, Bool, true, false, cond, List, [], ◌∷◌, length, map, refl, sym, ap₂, ◌∙◌, subst, inl, inr, ⊎_elim, arith, eqb, eq-eqb, Contains, Option, Some, None, slice_get}
 use Rattle.std.specs.Prelude.{◌⊎◌}
 use Rattle.std.specs.List.{IsDistinct, list_any}
-use Rattle.std.proofs.lemmas.Bool.{cases_Bool, eqb-true, false≢true, or_cases}
+use Rattle.std.proofs.lemmas.Bool.{cases_Bool, eqb-true, false≢true, or_cases, or_left, or_right}
 use Rattle.std.proofs.lemmas.Cmp.{nat_eq_equiv}
 use Rattle.std.proofs.lemmas.List.{length-map, map-append}
 use Rattle.std.proofs.lemmas.List.Folds.{list_any-append}
@@ -13,7 +13,7 @@ use Rattle.app_model.specs.Ancestors.{IsParent}
 use Rattle.app_model.specs.Hierarchy.{is_type}
 use Rattle.app_model.specs.Parts.{ClassParts}
 use Rattle.class_graph.specs.Walks.{has_kind, met, met_above, met_all, met_parent}
-use Rattle.class_graph.proofs.Lists.{kind_told, or_left, or_right, read_of, there_at, told_kind}
+use Rattle.class_graph.proofs.Lists.{kind_told, read_of, there_at, told_kind}
 
 abbrev pub numbers : List TypeNo → List ℕ
 numbers kinds = map (λ (t : TypeNo). t.0) kinds
@@ -63,14 +63,12 @@ module _ (kinds : List TypeNo) (t : TypeNo) where
   longer_has u = list_any-append (is_type u) kinds (t ∷ [])
 
   pub has_met : has_kind (met kinds t) t.0 ≡ true
-  unfolding met
   has_met = ⊎_elim
       (λ e. rw e e)
       (λ e. rw e (longer_has t.0 ∙ or_right (has_kind kinds t.0) (eqb t.0 t.0 || false) (or_left (eqb t.0 t.0) false (eq-eqb t.0 t.0 refl))))
       (cases_Bool (has_kind kinds t.0))
 
   pub grown_met : (P : ℕ → Type 0) → P t.0 → Grown P kinds (met kinds t)
-  unfolding met
   grown_met P p = go (has_kind kinds t.0) refl
     where
       go : (b : Bool) → has_kind kinds t.0 ≡ b → Grown P kinds (cond b kinds longer)

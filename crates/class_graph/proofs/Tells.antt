@@ -2,10 +2,10 @@
 use Rattle.std.proofs.Common.{◌≡◌, ℕ, zero, suc, ◌<◌, ◌≤◌, ◌||◌, ◌&&◌, Bool, true, false, List, [], ◌∷◌, length, refl, sym, ap, ap₂, ◌∙◌, inl, inr, ⊎_elim, arith, eqb, eq-eqb, Contains, Option, Some, None, option_map, position, slice_get, get_or}
 use Rattle.std.specs.Prelude.{◌⊎◌, is_none}
 use Rattle.std.specs.List.{list_any, range_with_len}
-use Rattle.std.proofs.lemmas.Bool.{and_parts, cases_lt, eqb-true, false≢true, or_cases}
+use Rattle.std.proofs.lemmas.Bool.{and_parts, cases_lt, eqb-true, false≢true, or_cases, or_left, or_right}
 use Rattle.std.proofs.lemmas.List.{length-map, take_all}
 use Rattle.std.proofs.lemmas.List.FromFn.{get_or-range_with_len, length-range_with_len}
-use Rattle.std.proofs.lemmas.Option.{slice_get-get_or, slice_get-map, slice_get_past, slice_get_within}
+use Rattle.std.proofs.lemmas.Option.{slice_get-get_or, slice_get-map, slice_get_past}
 use Rattle.ns_base.specs.declared.rows.TypeNo.{TypeNo}
 use Rattle.app_model.specs.Ancestors.{IsAncestor}
 use Rattle.app_model.specs.Hierarchy.{class_of_parent, class_of_type, field_in, has_unknown_above, is_sub, is_superclass, is_unknown, line, line_of, lookup_of, may_be_sub, method_in, nearest, or_else, parent_of, resolve_field_of, superclass_at}
@@ -13,14 +13,13 @@ use Rattle.app_model.specs.Parts.{AppParts, ClassParts}
 use Rattle.app_model.specs.Sound.{IsSoundApp}
 use Rattle.app_model.proofs.HierarchyLaws.{subtypes_told}
 use Rattle.app_model.proofs.TypeIndex.{class_none}
-use Rattle.class_graph.specs.declared.kinds.KindRow.{KindRow}
 use Rattle.class_graph.specs.Belongs.{IsClassGraph}
 use Rattle.class_graph.specs.Built.{IsBuilt, above_of, has_unknown, is_unknown_parent}
 use Rattle.class_graph.specs.Graph.{GraphParts, class_by, class_in, class_of_parent_by, field_by, is_unknown_kind, leads_by, leads_in, line_from, may_be_by, member_in, method_by, stands_by, stands_in, sub_by, superclass_by, superclass_in, unknown_by}
 use Rattle.class_graph.specs.Walks.{beside, has_kind}
 use Rattle.class_graph.proofs.Beside.{ancestor_below}
 use Rattle.class_graph.proofs.Climbs.{ancestor_found, found_ancestor}
-use Rattle.class_graph.proofs.Lists.{any_found, any_there, class_known, kind_told, or_left, or_right, same_test, superclass_told, told_kind, told_superclass}
+use Rattle.class_graph.proofs.Lists.{any_found, any_there, class_known, kind_told, same_test, superclass_told, told_kind, told_superclass}
 
 -- no class has a type that is not there
 no_class : (app : AppParts) (t : ℕ) → IsSoundApp app → length app.types ≤ t → None ≡ class_of_type app.classes t
@@ -42,7 +41,6 @@ module _ (app : AppParts) (sound : IsSoundApp app) (graph : GraphParts) (built :
 
   -- ---- rows
   class_same : (t : ℕ) → class_by graph.kinds t ≡ class_of_type classes t
-  unfolding class_by
   class_same t = ⊎_elim
       (λ (lt : t < length graph.kinds). let e = slice_get-get_or graph.kinds t (record { class = None; unknown = false }) lt in ap class_in e ∙ (built.kinds.each t _ e).class)
       (λ (past : length graph.kinds ≤ t). ap class_in (slice_get_past graph.kinds t past) ∙ no_class app t sound (omega (arith, past, built.kinds.len)))
@@ -52,7 +50,7 @@ module _ (app : AppParts) (sound : IsSoundApp app) (graph : GraphParts) (built :
   above_same c = ap (λ rows. slice_get rows c) built.above ∙ slice_get-map (above_of app) classes c
 
   superclass_same : (c : ℕ) → superclass_by graph c ≡ superclass_at classes c
-  unfolding superclass_by superclass_at above_of
+  unfolding superclass_at
   superclass_same c = ap (superclass_in graph.kinds) (above_same c) ∙ go (slice_get classes c)
     where
       parent_same : (parent : Option TypeNo) → class_of_parent_by graph.kinds parent ≡ class_of_parent classes parent
@@ -76,14 +74,12 @@ module _ (app : AppParts) (sound : IsSoundApp app) (graph : GraphParts) (built :
 
   -- ---- subtypes
   stands_told : (b c : ℕ) (class : ClassParts) → slice_get classes c ≡ Some class → stands_by graph b c ≡ (is_superclass class.parent b || has_kind (beside app class) b)
-  unfolding stands_by above_of
   stands_told b c class e = ap (λ o. stands_in o b) (above_same c ∙ ap (option_map (above_of app)) e)
 
   any_stands : (a b : ℕ) → list_any (stands_by graph b) (line_from graph (length graph.above) (class_by graph.kinds a)) ≡ list_any (stands_by graph b) (line classes (length classes) (class_of_type classes a))
   any_stands a b = ap (λ o. list_any (stands_by graph b) (line_from graph (length graph.above) o)) (class_same a) ∙ ap (list_any (stands_by graph b)) (lines (class_of_type classes a))
 
   sub_same : (a b : ℕ) → sub_by graph a b ≡ is_sub app a b
-  unfolding sub_by
   sub_same a b =
       let law = subtypes_told app sound.ranges a b in
       same_test _ _
@@ -92,24 +88,22 @@ module _ (app : AppParts) (sound : IsSoundApp app) (graph : GraphParts) (built :
 
   -- ---- types of which the files say nothing
   leads_told : (c : ℕ) (class : ClassParts) → slice_get classes c ≡ Some class → leads_by graph c ≡ (is_unknown_parent app class.parent || has_unknown app (beside app class))
-  unfolding leads_by above_of
   leads_told c class e = ap leads_in (above_same c ∙ ap (option_map (above_of app)) e)
 
+  row_unknown : (t : ℕ) → t < length graph.kinds → is_unknown_kind (slice_get graph.kinds t) ≡ is_unknown app t
+  row_unknown t lt = let f = slice_get-get_or graph.kinds t (record { class = None; unknown = false }) lt in ap is_unknown_kind f ∙ (built.kinds.each t _ f).unknown
+
   unknown_told : (t : ℕ) → is_unknown_kind (slice_get graph.kinds t) ≡ true → (t < length app.types) × (is_unknown app t ≡ true)
-  unknown_told t e = go (slice_get graph.kinds t) refl e
-    where
-      go : (o : Option KindRow) → slice_get graph.kinds t ≡ o → is_unknown_kind o ≡ true → (t < length app.types) × (is_unknown app t ≡ true)
-      go None f g = absurd (false≢true g)
-      go (Some kind) f g = (omega (arith, slice_get_within graph.kinds t kind f, built.kinds.len), sym (built.kinds.each t kind f).unknown ∙ g)
+  unknown_told t e = ⊎_elim
+      (λ (lt : t < length graph.kinds). (omega (arith, lt, built.kinds.len), sym (row_unknown t lt) ∙ e))
+      (λ (past : length graph.kinds ≤ t). absurd (false≢true (sym (ap is_unknown_kind (slice_get_past graph.kinds t past)) ∙ e)))
+      (cases_lt t (length graph.kinds))
 
   told_unknown : (t : ℕ) → t < length app.types → is_unknown app t ≡ true → is_unknown_kind (slice_get graph.kinds t) ≡ true
-  told_unknown t lt e =
-      let f = slice_get-get_or graph.kinds t (record { class = None; unknown = false }) (omega (arith, lt, built.kinds.len)) in
-      ap is_unknown_kind f ∙ (built.kinds.each t _ f).unknown ∙ e
+  told_unknown t lt e = row_unknown t (omega (arith, lt, built.kinds.len)) ∙ e
 
   -- a row leads to what the files say nothing of, where one of its types is such
   leads_there : (u c : ℕ) → is_unknown app u ≡ true → stands_by graph u c ≡ true → leads_by graph c ≡ true
-  unfolding stands_by
   leads_there u c un e = go (slice_get classes c) refl
     where
       parent : (parent : Option TypeNo) → parent ≡ Some (record { 0 = u }) → is_unknown_parent app parent ≡ true
@@ -126,7 +120,6 @@ module _ (app : AppParts) (sound : IsSoundApp app) (graph : GraphParts) (built :
       go (Some class) f = leads_told c class f ∙ row class (sym (stands_told u c class f) ∙ e)
 
   there_leads : (c : ℕ) → leads_by graph c ≡ true → (u : ℕ) × (is_unknown app u ≡ true) × (stands_by graph u c ≡ true)
-  unfolding leads_by
   there_leads c e = go (slice_get classes c) refl
     where
       parent : (class : ClassParts) → slice_get classes c ≡ Some class → (parent : Option TypeNo) → class.parent ≡ parent → is_unknown_parent app parent ≡ true → (u : ℕ) × (is_unknown app u ≡ true) × (stands_by graph u c ≡ true)
@@ -158,7 +151,7 @@ module _ (app : AppParts) (sound : IsSoundApp app) (graph : GraphParts) (built :
   test t u = is_sub app t u && is_unknown app u
 
   unknown_same : (t : ℕ) → unknown_by graph t ≡ has_unknown_above app t
-  unfolding unknown_by has_unknown_above
+  unfolding has_unknown_above
   unknown_same t = same_test _ _ forth back
     where
       found : (u : ℕ) → u < length app.types → ((t ≡ u) ⊎ IsAncestor classes t u) → is_unknown app u ≡ true → list_any (test t) all_types ≡ true
@@ -185,7 +178,7 @@ module _ (app : AppParts) (sound : IsSoundApp app) (graph : GraphParts) (built :
           ((subtypes_told app sound.ranges t u.0).0 parts.0)
 
   may_be_same : (t c : ℕ) → may_be_by graph t c ≡ may_be_sub app (Some t) c
-  unfolding may_be_by may_be_sub
+  unfolding may_be_sub
   may_be_same t c = ap₂ (λ x y. x || y) (sub_same t c) (ap₂ (λ x y. x && y) (ap is_none (class_same c)) (unknown_same t))
 
   -- ---- members
@@ -198,13 +191,13 @@ module _ (app : AppParts) (sound : IsSoundApp app) (graph : GraphParts) (built :
   field_found name kind c = built.fields name kind c ∙ ap (position _) (take_all (length app.fields) app.fields (omega arith))
 
   method_same : (c : ℕ) (class : ClassParts) (name proto : ℕ) → slice_get classes c ≡ Some class → method_by graph c name proto ≡ lookup_of app class.name.0 name proto
-  unfolding method_by lookup_of line_of
+  unfolding lookup_of line_of
   method_same c class name proto e =
       nearest_same _ _ (line_from graph (length graph.above) (Some c)) (method_found name proto)
       ∙ ap (nearest (method_in app name proto)) (lines (Some c) ∙ ap (line classes (length classes)) (sym (class_known app sound c class e)))
 
   field_same : (t name kind : ℕ) → field_by graph t name kind ≡ resolve_field_of app t name kind
-  unfolding field_by resolve_field_of line_of
+  unfolding resolve_field_of line_of
   field_same t name kind =
       nearest_same _ _ (line_from graph (length graph.above) (class_by graph.kinds t)) (field_found name kind)
       ∙ ap (nearest (field_in app name kind)) (lines (class_by graph.kinds t) ∙ ap (line classes (length classes)) (class_same t))

@@ -29,7 +29,7 @@ is_unknown_parent app (Some t) = is_unknown app t.0
 abbrev pub has_unknown : AppParts → List TypeNo → Bool
 has_unknown app kinds = list_any (λ (t : TypeNo). is_unknown app t.0) kinds
 
-unfoldable pub above_of : AppParts → ClassParts → AboveParts
+abbrev pub above_of : AppParts → ClassParts → AboveParts
 above_of app class = record { parent = class.parent; kinds = beside app class; unknown = is_unknown_parent app class.parent || has_unknown app (beside app class) }
 
 -- ---- members among the first n
@@ -39,14 +39,14 @@ is_method name proto c method = method.class.0 == c && (method.name.0 == name &&
 abbrev pub is_field : (name kind c : ℕ) → FieldRow → Bool
 is_field name kind c field = field.class.0 == c && (field.name.0 == name && field.kind.0 == kind)
 
-abbrev pub AreMembers : {X : Type 0} → (test : (name second c : ℕ) → X → Bool) → List X → ℕ → List (List Member) → Type 0
-AreMembers test xs n rows = (name second c : ℕ) → member_in rows name second c ≡ position (test name second c) (take n xs)
+abbrev pub AreMembers : {X : Type 0} → (test : (name second c : ℕ) → X → Bool) → List X → ℕ → List (Member × ℕ) → Type 0
+AreMembers test xs n members = (name second c : ℕ) → member_in members name second c ≡ position (test name second c) (take n xs)
 
-abbrev pub AreMethods : AppParts → ℕ → List (List Member) → Type 0
-AreMethods app n rows = AreMembers is_method app.methods n rows
+abbrev pub AreMethods : AppParts → ℕ → List (Member × ℕ) → Type 0
+AreMethods app n members = AreMembers is_method app.methods n members
 
-abbrev pub AreFields : AppParts → ℕ → List (List Member) → Type 0
-AreFields app n rows = AreMembers is_field app.fields n rows
+abbrev pub AreFields : AppParts → ℕ → List (Member × ℕ) → Type 0
+AreFields app n members = AreMembers is_field app.fields n members
 
 -- ---- all of it
 pub record IsBuilt (app : AppParts) (graph : GraphParts) : Type 0 where

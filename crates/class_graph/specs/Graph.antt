@@ -1,6 +1,7 @@
 -- A class hierarchy as contracts see it: rows of types and of classes, and what they answer.
-use Rattle.std.specs.Prelude.{ℕ, zero, suc, ◌==◌, if◌then◌else◌, ◌&&◌, ◌||◌, Bool, false, List, [], ◌∷◌, length, Option, Some, None, option_map, is_none, slice_get, slice_index_or}
+use Rattle.std.specs.Prelude.{ℕ, zero, suc, ◌==◌, ◌&&◌, ◌||◌, Bool, false, List, [], ◌∷◌, length, Option, Some, None, option_map, is_none, slice_get}
 use Rattle.std.specs.List.{list_any}
+use Rattle.std.specs.Map.{lookup}
 use Rattle.ns_base.specs.declared.rows.ClassNo.{ClassNo}
 use Rattle.ns_base.specs.declared.rows.TypeNo.{TypeNo}
 use Rattle.app_model.specs.Hierarchy.{is_superclass, is_type, nearest}
@@ -13,19 +14,19 @@ pub record AboveParts : Type 0 where
   pub kinds : List TypeNo
   pub unknown : Bool
 
--- rows of types, and of classes
+-- rows of types, and of classes; members with their numbers
 pub record GraphParts : Type 0 where
   pub kinds : List KindRow
   pub above : List AboveParts
-  pub methods : List (List Member)
-  pub fields : List (List Member)
+  pub methods : List (Member × ℕ)
+  pub fields : List (Member × ℕ)
 
 -- ---- the class of a type, and the classes above it
 abbrev pub class_in : Option KindRow → Option ℕ
 class_in None = None
 class_in (Some kind) = option_map (λ (c : ClassNo). c.0) kind.class
 
-unfoldable pub class_by : List KindRow → ℕ → Option ℕ
+abbrev pub class_by : List KindRow → ℕ → Option ℕ
 class_by kinds t = class_in (slice_get kinds t)
 
 abbrev pub class_of_parent_by : List KindRow → Option TypeNo → Option ℕ
@@ -36,7 +37,7 @@ abbrev pub superclass_in : List KindRow → Option AboveParts → Option ℕ
 superclass_in kinds None = None
 superclass_in kinds (Some above) = class_of_parent_by kinds above.parent
 
-unfoldable pub superclass_by : GraphParts → ℕ → Option ℕ
+abbrev pub superclass_by : GraphParts → ℕ → Option ℕ
 superclass_by graph c = superclass_in graph.kinds (slice_get graph.above c)
 
 abbrev pub line_from : GraphParts → ℕ → Option ℕ → List ℕ
@@ -52,10 +53,10 @@ abbrev pub stands_in : Option AboveParts → ℕ → Bool
 stands_in None u = false
 stands_in (Some above) u = is_superclass above.parent u || list_any (is_type u) above.kinds
 
-unfoldable pub stands_by : GraphParts → (u c : ℕ) → Bool
+abbrev pub stands_by : GraphParts → (u c : ℕ) → Bool
 stands_by graph u c = stands_in (slice_get graph.above c) u
 
-unfoldable pub sub_by : GraphParts → (a b : ℕ) → Bool
+abbrev pub sub_by : GraphParts → (a b : ℕ) → Bool
 sub_by graph a b = (a == b) || list_any (stands_by graph b) (line_by graph (class_by graph.kinds a))
 
 abbrev pub is_unknown_kind : Option KindRow → Bool
@@ -66,29 +67,28 @@ abbrev pub leads_in : Option AboveParts → Bool
 leads_in None = false
 leads_in (Some above) = above.unknown
 
-unfoldable pub leads_by : GraphParts → ℕ → Bool
+abbrev pub leads_by : GraphParts → ℕ → Bool
 leads_by graph c = leads_in (slice_get graph.above c)
 
-unfoldable pub unknown_by : GraphParts → ℕ → Bool
+abbrev pub unknown_by : GraphParts → ℕ → Bool
 unknown_by graph t = is_unknown_kind (slice_get graph.kinds t) || list_any (leads_by graph) (line_by graph (class_by graph.kinds t))
 
-unfoldable pub may_be_by : GraphParts → (t c : ℕ) → Bool
+abbrev pub may_be_by : GraphParts → (t c : ℕ) → Bool
 may_be_by graph t c = sub_by graph t c || (is_none (class_by graph.kinds c) && unknown_by graph t)
 
 -- ---- members
-abbrev pub is_member : (name second : ℕ) → Member → Bool
-is_member name second member = member.name.0 == name && member.second == second
+abbrev pub same_member : Member → Member → Bool
+same_member a b = a.class == b.class && (a.name == b.name && a.second == b.second)
 
-abbrev pub first_member : (name second : ℕ) → List Member → Option ℕ
-first_member name second [] = None
-first_member name second (member ∷ members) = if is_member name second member then Some member.number else first_member name second members
+abbrev pub member_of : (name second c : ℕ) → Member
+member_of name second c = record { class = c; name = name; second = second }
 
--- the first of these members of class c
-unfoldable pub member_in : List (List Member) → (name second c : ℕ) → Option ℕ
-member_in rows name second c = first_member name second (slice_index_or rows c [])
+-- the number of such a member of class c
+abbrev pub member_in : List (Member × ℕ) → (name second c : ℕ) → Option ℕ
+member_in members name second c = lookup (same_member (member_of name second c)) members
 
-unfoldable pub method_by : GraphParts → (c name proto : ℕ) → Option ℕ
+abbrev pub method_by : GraphParts → (c name proto : ℕ) → Option ℕ
 method_by graph c name proto = nearest (member_in graph.methods name proto) (line_by graph (Some c))
 
-unfoldable pub field_by : GraphParts → (t name kind : ℕ) → Option ℕ
+abbrev pub field_by : GraphParts → (t name kind : ℕ) → Option ℕ
 field_by graph t name kind = nearest (member_in graph.fields name kind) (line_by graph (class_by graph.kinds t))

@@ -9,7 +9,7 @@ abbrev pub has_kind : List TypeNo → ℕ → Bool
 has_kind kinds u = list_any (is_type u) kinds
 
 -- one more type, if it is new
-unfoldable pub met : List TypeNo → TypeNo → List TypeNo
+abbrev pub met : List TypeNo → TypeNo → List TypeNo
 met kinds t = if has_kind kinds t.0 then kinds else kinds ++ t ∷ []
 
 abbrev pub met_all : List TypeNo → List TypeNo → List TypeNo
@@ -39,7 +39,7 @@ met_from classes zero i kinds = kinds
 met_from classes (suc n) i kinds = met_from classes n (i + 1) (met_next classes kinds (slice_get kinds i))
 
 -- the interfaces of a class, and all above them
-unfoldable pub beside : AppParts → ClassParts → List TypeNo
+abbrev pub beside : AppParts → ClassParts → List TypeNo
 beside app class = met_from app.classes (length app.types) 0 (met_all [] class.interfaces)
 
 -- ---- a walk as its crate sees it: how many types there are, the number of the walk, the types met

@@ -92,6 +92,7 @@ fn meet_next(alloc: Global, app: &App, walk: &mut Walk, place: usize) -> Result<
     }
 }
 
+#[tactic(auto, using(crate::proofs::Lines::walk_step))]
 fn meet_rest(alloc: Global, app: &App, walk: &mut Walk) -> Result<(), AllocError>
     requires { walk.old.types ≡ length app.now.types }
     ensures { IfOk result (λ done. walk.new ≡ with_kinds walk.old (met_from app.now.classes (length app.now.types) 0 walk.old.kinds)) }
@@ -106,7 +107,6 @@ fn meet_rest(alloc: Global, app: &App, walk: &mut Walk) -> Result<(), AllocError
 }
 
 // The interfaces of a class, and all types above them.
-#[tactic(auto, unfolding(crate::specs::Walks::beside))]
 fn walk_beside(alloc: Global, app: &App, walk: &mut Walk, class: ClassNo) -> Result<(), AllocError>
     requires class { class.0 < length app.now.classes }
     requires types { walk.old.types ≡ length app.now.types }
@@ -120,7 +120,6 @@ fn walk_beside(alloc: Global, app: &App, walk: &mut Walk, class: ClassNo) -> Res
     meet_rest(alloc, app, walk)
 }
 
-#[tactic(auto, unfolding(crate::specs::Built::above_of))]
 fn above_row(
     alloc: Global,
     app: &App,
@@ -145,6 +144,7 @@ fn above_row(
     })
 }
 
+#[tactic(auto, using(crate::proofs::Rows::map_push))]
 pub(crate) fn above_rows(alloc: Global, app: &App) -> Result<Vec<AboveRow>, AllocError>
     ensures { IfOk result (λ rows. rows.items ≡ map (above_of app.now) app.now.classes) }
 {

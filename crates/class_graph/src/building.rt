@@ -15,30 +15,26 @@ use std::alloc::{AllocError, Global};
 // The next method, if a look-up may find it.
 fn add_method(app: &App, members: &mut Members, method: MethodNo) -> Result<(), AllocError>
     requires method { method.0 < length app.now.methods }
-    requires classes { length members.old ≡ length app.now.classes }
     requires before { AreMethods app.now method.0 members.old }
-    ensures classes { IfOk result (λ done. length members.new ≡ length app.now.classes) }
-    ensures now { IfOk result (λ done. AreMethods app.now (method.0 + 1) members.new) }
+    ensures { IfOk result (λ done. AreMethods app.now (method.0 + 1) members.new) }
 {
     let row = app.method(method);
     if row.flags & access::ABSTRACT != 0 {
         return Ok(());
     }
-    members.add(
-        row.class,
-        Member {
-            name: row.name,
-            second: row.proto.0,
-            number: method.0,
-        },
-    )?;
+    let member = Member {
+        class: row.class.0,
+        name: row.name.0,
+        second: row.proto.0,
+    };
+    members.add(member, method.0)?;
     Ok(())
 }
 
 fn method_rows(alloc: Global, app: &App) -> Result<Members, AllocError>
     ensures { IfOk result (λ members. AreMethods app.now (length app.now.methods) members) }
 {
-    let mut members = Members::new(alloc, app.class_count() as usize)?;
+    let mut members = Members::new(alloc);
     for m in 0..app.method_count() {
         add_method(app, &mut members, MethodNo(m))?;
     }
@@ -47,27 +43,23 @@ fn method_rows(alloc: Global, app: &App) -> Result<Members, AllocError>
 
 fn add_field(app: &App, members: &mut Members, field: FieldNo) -> Result<(), AllocError>
     requires field { field.0 < length app.now.fields }
-    requires classes { length members.old ≡ length app.now.classes }
     requires before { AreFields app.now field.0 members.old }
-    ensures classes { IfOk result (λ done. length members.new ≡ length app.now.classes) }
-    ensures now { IfOk result (λ done. AreFields app.now (field.0 + 1) members.new) }
+    ensures { IfOk result (λ done. AreFields app.now (field.0 + 1) members.new) }
 {
     let row = app.field(field);
-    members.add(
-        row.class,
-        Member {
-            name: row.name,
-            second: row.kind.0,
-            number: field.0,
-        },
-    )?;
+    let member = Member {
+        class: row.class.0,
+        name: row.name.0,
+        second: row.kind.0,
+    };
+    members.add(member, field.0)?;
     Ok(())
 }
 
 fn field_rows(alloc: Global, app: &App) -> Result<Members, AllocError>
     ensures { IfOk result (λ members. AreFields app.now (length app.now.fields) members) }
 {
-    let mut members = Members::new(alloc, app.class_count() as usize)?;
+    let mut members = Members::new(alloc);
     for f in 0..app.field_count() {
         add_field(app, &mut members, FieldNo(f))?;
     }
@@ -90,6 +82,7 @@ fn build_parts(alloc: Global, app: &App) -> Result<ClassGraph, AllocError>
 }
 
 /// The class hierarchy of an application.
+#[tactic(auto, using(crate::proofs::Tells::answers_so))]
 pub fn build(alloc: Global, app: &App) -> Result<ClassGraph, OutOfMemory>
     ensures { IfOk result (IsClassGraph app.now) }
 {

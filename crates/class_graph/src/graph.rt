@@ -77,7 +77,6 @@ impl ClassGraph {
         }
     }
 
-    #[tactic(auto, unfolding(crate::specs::Graph::class_by))]
     fn class_of_type(&self, kind: TypeNo) -> Option<ClassNo>
         ensures { option_map (λ (c : ClassNo). c.0) result ≡ class_by self.now.kinds kind.0 }
     {
@@ -87,7 +86,6 @@ impl ClassGraph {
         }
     }
 
-    #[tactic(auto, unfolding(crate::specs::Graph::superclass_by))]
     fn superclass(&self, class: ClassNo) -> Option<ClassNo>
         ensures { option_map (λ (c : ClassNo). c.0) result ≡ superclass_by self.now class.0 }
     {
@@ -96,7 +94,6 @@ impl ClassGraph {
     }
 
     // Whether a type is a parent of a class, or stands above an interface of it.
-    #[tactic(auto, unfolding(crate::specs::Graph::stands_by))]
     fn stands_above(&self, class: ClassNo, kind: TypeNo) -> bool
         ensures { result ≡ stands_by self.now kind.0 class.0 }
     {
@@ -106,7 +103,6 @@ impl ClassGraph {
         }
     }
 
-    #[tactic(auto, unfolding(crate::specs::Graph::leads_by))]
     fn leads_out(&self, class: ClassNo) -> bool
         ensures { result ≡ leads_by self.now class.0 }
     {
@@ -116,7 +112,6 @@ impl ClassGraph {
         }
     }
 
-    #[tactic(auto, unfolding(crate::specs::Graph::sub_by))]
     fn sub(&self, a: TypeNo, b: TypeNo) -> bool
         ensures { result ≡ sub_by self.now a.0 b.0 }
     {
@@ -124,6 +119,7 @@ impl ClassGraph {
     }
 
     // A class, or one of the application above it, has the type above it.
+    #[tactic(auto, using(crate::proofs::Lines::any_step))]
     fn line_stands(&self, from: Option<ClassNo>, kind: TypeNo) -> bool
         ensures { result ≡ list_any (stands_by self.now kind.0) (line_by self.now (option_map (λ (c : ClassNo). c.0) from)) }
     {
@@ -140,6 +136,7 @@ impl ClassGraph {
         false
     }
 
+    #[tactic(auto, using(crate::proofs::Lines::any_step))]
     fn line_leads(&self, from: Option<ClassNo>) -> bool
         ensures { result ≡ list_any (leads_by self.now) (line_by self.now (option_map (λ (c : ClassNo). c.0) from)) }
     {
@@ -156,7 +153,6 @@ impl ClassGraph {
         false
     }
 
-    #[tactic(auto, unfolding(crate::specs::Graph::unknown_by))]
     fn unknown_above(&self, kind: TypeNo) -> bool
         ensures { result ≡ unknown_by self.now kind.0 }
     {
@@ -172,13 +168,13 @@ impl ClassGraph {
         }
     }
 
-    #[tactic(auto, unfolding(crate::specs::Graph::may_be_by))]
     fn may_be(&self, kind: TypeNo, of: TypeNo) -> bool
         ensures { result ≡ may_be_by self.now kind.0 of.0 }
     {
         self.sub(kind, of) || (self.class_of_type(of).is_none() && self.unknown_above(kind))
     }
 
+    #[tactic(auto, using(crate::proofs::Lines::nearest_step))]
     fn nearest(
         &self,
         members: &Members,
@@ -199,14 +195,12 @@ impl ClassGraph {
         None
     }
 
-    #[tactic(auto, unfolding(crate::specs::Graph::method_by))]
     fn method(&self, class: ClassNo, name: NameNo, proto: ProtoNo) -> Option<u32>
         ensures { result ≡ method_by self.now class.0 name.0 proto.0 }
     {
         self.nearest(&self.methods, Some(class), name, proto.0)
     }
 
-    #[tactic(auto, unfolding(crate::specs::Graph::field_by))]
     fn field(&self, class: TypeNo, name: NameNo, kind: TypeNo) -> Option<u32>
         ensures { result ≡ field_by self.now class.0 name.0 kind.0 }
     {

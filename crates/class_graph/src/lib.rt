@@ -3,7 +3,7 @@
 //!
 //! - `graph` is the hierarchy with its answers, `building` makes it.
 //! - `kinds` has a row for each type, `above` one for each class; `walk` finds the types above interfaces.
-//! - `members` has the methods and fields of each class.
+//! - `members` finds the methods and fields of a class by name and prototype or type.
 #![tactic(auto)]
 
 mod above;

@@ -1,86 +1,64 @@
-//! The methods, or the fields, of each class.
-ghost use Rattle.std.specs.Prelude.{◌≡◌, ◌<◌, ◌++◌, [], ◌∷◌, IfOk, length, replicate, slice_set, slice_index_or};
-ghost use Rattle.class_graph.specs.Graph.{member_in, is_member, first_member};
+//! The methods, or the fields, of all classes.
+ghost use Rattle.std.specs.Prelude.{◌≡◌, ℕ, if◌then◌else◌, [], IfOk, Some, None};
+ghost use Rattle.app_model.specs.Hierarchy.{or_else};
+ghost use Rattle.class_graph.specs.Graph.{member_in, same_member, member_of};
 
 use ns_base::{ClassNo, NameNo};
 use std::alloc::{AllocError, Global};
+use std::collections::HashMap;
 use std::marker::Model;
 
-/// A method with the number of its prototype, or a field with that of its type.
-#[derive(Clone, Copy)]
+/// What a look-up asks for: the numbers of a class, of a name, and of a prototype or a type.
+#[derive(Clone, Copy, PartialEq, Eq, Hash)]
 pub(crate) struct Member {
-    pub name: NameNo,
+    pub class: u32,
+    pub name: u32,
     pub second: u32,
-    pub number: u32,
 }
 
-/// A row of members for each class.
+/// The number of the first method, or field, with such a class, name and prototype or type.
 #[derive(Drop)]
 pub(crate) struct Members {
-    rows: Vec<Vec<Member>>,
+    numbers: HashMap<Member, u32>,
 }
 
 impl Model for Members {
-    ghost use Rattle.std.specs.Prelude.{List, map};
+    ghost use Rattle.std.specs.Prelude.{ℕ, List};
     ghost use Rattle.class_graph.specs.declared.members.Member.{Member};
 
-    ghost Value = { List (List Member) };
+    ghost Value = { List (Member × ℕ) };
 
-    ghost view = { λ m. map (λ v. v.items) m.rows.items };
-}
-
-fn empty_rows(alloc: Global, classes: usize) -> Result<Members, AllocError>
-    ensures { IfOk result (λ members. members ≡ replicate classes []) }
-{
-    let mut rows = Vec::with_capacity(alloc, classes)?;
-    for _class in 0..classes {
-        rows.push(Vec::new(alloc))?;
-    }
-    Ok(Members { rows })
+    ghost view = { λ m. m.numbers.entries };
 }
 
 impl Members {
-    /// No members of so many classes.
-    pub fn new(alloc: Global, classes: usize) -> Result<Members, AllocError>
-        ensures { IfOk result (λ members. members ≡ replicate classes []) }
+    pub fn new(alloc: Global) -> Members
+        ensures { result ≡ [] }
     {
-        empty_rows(alloc, classes)
+        Members {
+            numbers: HashMap::new(alloc),
+        }
     }
 
-    pub fn add(&mut self, class: ClassNo, member: Member) -> Result<(), AllocError>
-        requires { class.0 < length self.old }
-        ensures { IfOk result (λ done. self.new ≡ slice_set self.old class.0 (slice_index_or self.old class.0 [] ++ member ∷ [])) }
+    /// Adds a member; where there is an equal one, its number stays.
+    pub fn add(&mut self, member: Member, number: u32) -> Result<(), AllocError>
+        ensures { IfOk result (λ done. (name second c : ℕ) → member_in self.new name second c
+            ≡ or_else (member_in self.old name second c) (if same_member member (member_of name second c) then Some number else None)) }
     {
-        self.rows[class.0 as usize].push(member)?;
+        let first = self.numbers.get(&member).copied().unwrap_or(number);
+        self.numbers.insert(member, first)?;
         Ok(())
     }
 
     /// The number of a class's first member of this name and prototype, or type.
-    #[tactic(auto, unfolding(crate::specs::Graph::member_in))]
     pub fn find(&self, class: ClassNo, name: NameNo, second: u32) -> Option<u32>
         ensures { result ≡ member_in self.now name.0 second class.0 }
     {
-        if class.0 as usize >= self.rows.len() {
-            return None;
-        }
-        first_member(&self.rows[class.0 as usize], name, second)
+        let member = Member {
+            class: class.0,
+            name: name.0,
+            second,
+        };
+        self.numbers.get(&member).copied()
     }
-}
-
-fn is_member(member: Member, name: NameNo, second: u32) -> bool
-    ensures { result ≡ is_member name.0 second member }
-{
-    member.name.0 == name.0 && member.second == second
-}
-
-fn first_member(members: &[Member], name: NameNo, second: u32) -> Option<u32>
-    ensures { result ≡ first_member name.0 second members.now }
-{
-    for i in 0..members.len() {
-        let member = members[i];
-        if is_member(member, name, second) {
-            return Some(member.number);
-        }
-    }
-    None
 }

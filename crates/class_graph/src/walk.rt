@@ -48,7 +48,6 @@ impl Walk {
         self.kinds.clear();
     }
 
-    #[tactic(auto, unfolding(crate::specs::Walks::met))]
     pub fn meet(&mut self, alloc: Global, kind: TypeNo) -> Result<(), AllocError>
         requires { kind.0 < self.old.types }
         ensures { IfOk result (λ done. self.new ≡ with_kinds self.old (met self.old.kinds kind)) }

@@ -1,10 +1,7 @@
-use Rattle.std.proofs.Common.{refl, arith}
+use Rattle.std.proofs.Common.{refl}
 use Rattle.class_graph.specs.Built.{is_field}
 use Rattle.class_graph.proofs.Rows.{members_more}
 use Rattle.class_graph.proofs.building.add_field.Goals as goal
 
-pub returns-clause-now : goal.returns-clause-now
-returns-clause-now c =
-    rw c.in_ok-add.ensures
-    (members_more is_field _ c.args.field.0 c.field-row.result.now c.field-row.ensures.is _ _ _ (omega (arith, c.field-row.ensures.sound.class, c.requires.classes)) refl
-    (λ name second class. refl) c.requires.before)
+pub returns : goal.returns
+returns c = members_more is_field _ c.args.field.0 c.field-row.result.now c.field-row.ensures.is _ _ (record { class = c.field-row.result.now.class.0; name = c.field-row.result.now.name.0; second = c.field-row.result.now.kind.0 }) (λ name second class. refl) c.in_ok-add.ensures c.requires.before

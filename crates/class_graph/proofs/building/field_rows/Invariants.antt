@@ -1,9 +1,5 @@
-use Rattle.std.proofs.Common.{◌≡◌, length}
 use Rattle.class_graph.specs.Built.{AreFields}
 use Rattle.class_graph.proofs.building.field_rows.Given as goal
 
 abbrev pub invariant-loop-f : goal.invariant-loop-f
-invariant-loop-f l = record {
-  classes : length l.members ≡ length l.app.classes;
-  members : AreFields l.app l.f l.members;
-}
+invariant-loop-f l = AreFields l.app l.f l.members

@@ -1,7 +1,0 @@
-use Rattle.std.proofs.Common.{arith}
-use Rattle.std.proofs.lemmas.Grind.{common_steps}
-use Rattle.class_graph.proofs.Lines.{nearest-step}
-use Rattle.class_graph.proofs.graph.ClassGraph.nearest.Goals as goal
-
-pub loop-step-preserved : goal.loop-step-preserved
-loop-step-preserved c = grind (arith, common_steps, nearest-step)
