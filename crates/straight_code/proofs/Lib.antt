@@ -8,6 +8,7 @@ pub mod Supertypes
 pub mod Rounds
 pub mod Images
 pub mod Steps
+pub mod Makes
 pub mod Judged
 pub mod Listed
 pub mod PathTags

@@ -10,6 +10,7 @@ ghost use Rattle.dalvik.specs.Descriptors as descriptors;
 ghost use Rattle.act_model.specs.Acts.{act_at};
 ghost use Rattle.act_model.specs.Changes.{after};
 ghost use Rattle.act_model.specs.Entries.{callback_row, callback_words, fitted};
+ghost use Rattle.flow_model.specs.Images.{IsImage};
 ghost use Rattle.flow_model.specs.Scope as scope;
 ghost use Rattle.straight_code.specs.Path.{row_before};
 ghost use Rattle.straight_code.specs.Scope.{IsAllowed, stores_new_at};
@@ -154,7 +155,7 @@ pub fn step(walk: &mut Walk, app: &App, index: u32) -> bool
     if !is_allowed(app, index, &act, walk.row.as_slice()) || stores_again(walk, &act) {
         return false;
     }
-    let made = made_at(app, index);
+    let made = made_at(app, index, &act);
     move_on(walk, &act, made);
     true
 }
@@ -193,15 +194,29 @@ fn is_allowed(app: &App, index: u32, act: &Act, row: &[Tag]) -> bool
 }
 
 // How many locks an instruction makes.
-fn made_at(app: &App, index: u32) -> u32
+fn made_at(app: &App, index: u32, act: &Act) -> u32
     requires small { IsSmallApp app.now }
     requires index { index < code_len app.now 0 }
+    requires act { act_at app.now 0 index ≡ Some act.now }
     ensures made { result ≡ (if is_make (lock_use_at app.now 0 index) then 1 else 0) }
     ensures one { result ≤ 1 }
 {
-    match app.lock_use(CALLBACK, index) {
+    match use_at(app, index, act) {
         LockUse::Make => 1,
         _ => 0,
+    }
+}
+
+// What an instruction is to the wake locks; the act of a call says it.
+fn use_at(app: &App, index: u32, act: &Act) -> LockUse
+    requires small { IsSmallApp app.now }
+    requires index { index < code_len app.now 0 }
+    requires act { act_at app.now 0 index ≡ Some act.now }
+    ensures { result ≡ lock_use_at app.now 0 index }
+{
+    match *act {
+        Act::Call { usage, .. } => usage,
+        _ => app.lock_use(CALLBACK, index),
     }
 }
 
@@ -218,16 +233,33 @@ fn next_images(act: &Act, row: &[Tag], images: &[u8; 8]) -> [u8; 8]
     ensures { (app : AppParts) (i : ℕ) → act_at app 0 i ≡ Some act.now → row.now ≡ row_before app 0 i → AreImages app i images.now → AreImages app (i + 1) result }
 {
     let column = column_of(act, row);
+    let first = (images[0], image(&column, images[0]));
+    let last = (images[7], image(&column, images[7]));
     [
-        image(&column, images[0]),
-        image(&column, images[1]),
-        image(&column, images[2]),
-        image(&column, images[3]),
-        image(&column, images[4]),
-        image(&column, images[5]),
-        image(&column, images[6]),
-        image(&column, images[7]),
+        first.1,
+        image_by(&column, images[1], first, last),
+        image_by(&column, images[2], first, last),
+        image_by(&column, images[3], first, last),
+        image_by(&column, images[4], first, last),
+        image_by(&column, images[5], first, last),
+        image_by(&column, images[6], first, last),
+        last.1,
     ]
+}
+
+// The image of a mask, where those of two others are known. Most masks are one of these.
+fn image_by(column: &[u8; 8], mask: u8, first: (u8, u8), last: (u8, u8)) -> u8
+    requires first { IsImage (slice_index column.now) first.0 first.1 }
+    requires last { IsImage (slice_index column.now) last.0 last.1 }
+    ensures { IsImage (slice_index column.now) mask result }
+{
+    if mask == first.0 {
+        first.1
+    } else if mask == last.0 {
+        last.1
+    } else {
+        image(column, mask)
+    }
 }
 
 // Where an act leads from each status.

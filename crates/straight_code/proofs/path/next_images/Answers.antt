@@ -9,4 +9,4 @@ pub returns : goal.returns
 returns c = λ app i there row are.
     next_images app i c.args.act.now there c.column_of-column.result c.args.images.now _ _ _ _ _ _ _ _
     (subst (λ (r : List Tag). IsColumn c.args.act.now r c.column_of-column.result) row c.column_of-column.ensures) are
-    c.image.ensures c.image-2.ensures c.image-3.ensures c.image-4.ensures c.image-5.ensures c.image-6.ensures c.image-7.ensures c.image-8.ensures
+    c.image.ensures c.image_by.ensures c.image_by-2.ensures c.image_by-3.ensures c.image_by-4.ensures c.image_by-5.ensures c.image_by-6.ensures c.image-2.ensures
