@@ -3,23 +3,13 @@ use Rattle.std.specs.Prelude.{ℕ, ◌≡◌, ◌<◌, ◌+◌, ◌==◌, Bool, 
 use Rattle.dalvik.specs.declared.ins.Ins.{Ins}
 use Rattle.dalvik.specs.declared.ins.Ins.TheVariants as ins
 use Rattle.app_model.specs.declared.rows.Named.{Named}
-use Rattle.app_model.specs.declared.lock_use.LockUse.{LockUse}
-use Rattle.app_model.specs.declared.lock_use.LockUse.TheVariants.{Plain, Make, Acquire, Release, IsHeld, Mode, Wrong}
 use Rattle.dalvik.specs.declared.opcode.TheConstants.{CONST_4, CONST_STRING, INVOKE_VIRTUAL, MOVE_RESULT_OBJECT, SGET_OBJECT, SPUT_OBJECT}
 use Rattle.app_model.specs.Parts.{AppParts}
 use Rattle.app_model.specs.Words.{code_len, ins_at, named_at, successor_at, handler_at}
 use Rattle.app_model.specs.Names.{is_on, is_method, string_name, wake_lock_name}
 use Rattle.app_model.specs.LockUse.{lock_use_at}
+use Rattle.app_model.specs.Sites.{is_make}
 use Rattle.app_model.specs.Slots.{slot_at}
-
-abbrev pub is_make : LockUse → Bool
-is_make Make = true
-is_make Plain = false
-is_make Acquire = false
-is_make Release = false
-is_make IsHeld = false
-is_make Mode = false
-is_make Wrong = false
 
 -- getSystemService of a context
 abbrev pub is_get_service : AppParts → Named → Bool

@@ -1,6 +1,7 @@
 //! Tells straight-line code of nine opcodes over one static lock field.
 ghost use Rattle.std.specs.Prelude.{◌≡◌, ◌↔◌, ◌<◌, ◌+◌, ℕ, length, Some, None, IsTrue, ◌||◌};
 ghost use Rattle.app_model.specs.Words.{code_len, ins_at, named_at, handler_at};
+ghost use Rattle.app_model.specs.Sites.{is_make};
 ghost use Rattle.app_model.specs.LockUse.{lock_use_at};
 ghost use Rattle.app_model.specs.Slots.{slot_at};
 ghost use Rattle.straight_code.specs.Body as spec;
@@ -112,7 +113,7 @@ fn is_first_slot(app: &App, index: u32) -> bool
 fn is_plain_call(app: &App, index: u32) -> bool
     requires one { length app.now.methods ≡ 1 }
     requires index { index < code_len app.now 0 }
-    ensures { result ≡ (spec.is_make (lock_use_at app.now 0 index) || spec.is_plain_named app.now (named_at app.now 0 index)) }
+    ensures { result ≡ (is_make (lock_use_at app.now 0 index) || spec.is_plain_named app.now (named_at app.now 0 index)) }
 {
     matches!(app.lock_use(CALLBACK, index), LockUse::Make)
         || is_plain_name(app, app.named(CALLBACK, index))
