@@ -9,14 +9,15 @@ use Rattle.app_model.specs.declared.rows.Named.{Named}
 use Rattle.app_model.specs.declared.lock_use.LockUse.{LockUse}
 use Rattle.app_model.specs.declared.lock_use.LockUse.TheVariants.{Plain, Make, Acquire, Release, IsHeld, Mode, Wrong}
 use Rattle.app_model.specs.Parts.{AppParts}
+use Rattle.app_model.specs.Targets.{call_by}
 use Rattle.app_model.specs.Words.{ins_at, named_at}
 use Rattle.app_model.specs.Names.{result_text}
 use Rattle.app_model.specs.LockUse.{lock_use_at}
 use Rattle.app_model.specs.Slots.{slot_at}
 use Rattle.act_model.specs.declared.act.Act.{Act}
 use Rattle.act_model.specs.declared.act.Act.TheVariants.{Go, Test, Copy, TakeResult, Write, Fill, ReadSlot, WriteSlot, Give, Check, Throw, Return, Call}
-use Rattle.act_model.specs.declared.act.By.{By}
-use Rattle.act_model.specs.declared.act.By.TheVariants.{Virtual, Super, Direct, Static}
+use Rattle.app_model.specs.declared.calls.By.{By}
+use Rattle.app_model.specs.declared.calls.By.TheVariants.{Virtual, Super, Direct, Static}
 use Rattle.act_model.specs.declared.act.Gives.{Gives}
 use Rattle.act_model.specs.declared.act.Gives.TheVariants.{Nothing, Number, Object}
 use Rattle.act_model.specs.declared.act.LockOp.{LockOp}
@@ -73,13 +74,6 @@ write_act from None throws = Give from throws
 write_act from (Some l) throws = WriteSlot from (record { 0 = l }) throws
 
 -- ---- calls
--- interface calls go by the receiver's type as virtual ones do
-abbrev pub call_by : (op : ℕ) → By
-call_by op =
-    if op == INVOKE_SUPER || op == INVOKE_SUPER_RANGE then Super
-    else (if op == INVOKE_DIRECT || op == INVOKE_DIRECT_RANGE then Direct
-    else (if op == INVOKE_STATIC || op == INVOKE_STATIC_RANGE then Static else Virtual))
-
 -- what a call gives, by the descriptor of the result
 abbrev pub gives_of : List ℕ → Gives
 gives_of text = if bytes_eq text (codes "V") then Nothing else (if is_reference text then Object else Number)

@@ -9,8 +9,8 @@ use Rattle.app_model.specs.declared.tag.Tag.TheVariants.{Bot, Zero, Solid, Held,
 use Rattle.app_model.specs.Parts.{AppParts}
 use Rattle.app_model.specs.Sound.{params_len}
 use Rattle.std.specs.Prelude.{slice_get}
-use Rattle.act_model.specs.declared.act.By.{By}
-use Rattle.act_model.specs.declared.act.By.TheVariants.{Virtual, Super, Direct, Static}
+use Rattle.app_model.specs.declared.calls.By.{By}
+use Rattle.app_model.specs.declared.calls.By.TheVariants.{Virtual, Super, Direct, Static}
 use Rattle.act_model.specs.Changes.{tag_in}
 
 -- so many words

@@ -7,9 +7,10 @@ ghost use Rattle.dalvik.specs.Registers as registers;
 ghost use Rattle.app_model.specs.Slots.{slot_at};
 ghost use Rattle.app_model.specs.LockUse.{lock_use_at};
 ghost use Rattle.app_model.specs.Words.{code_len, named_at};
+ghost use Rattle.app_model.specs.Targets.{call_by};
 ghost use Rattle.act_model.specs.Acts as spec;
 
-use app_model::{App, LockUse, Named};
+use app_model::{App, By, LockUse, Named, call_by};
 use dalvik::{Args, Ins, is_wide_binary, is_wide_const, is_wide_move, is_wide_unary, opcode};
 use ns_base::{LockNo, MethodNo, TypeNo};
 
@@ -50,16 +51,6 @@ pub enum Returned {
     /// A pair of registers.
     Wide,
     Register(u32),
-}
-
-/// How a call finds its method. All but static calls have a receiver, their first argument.
-#[derive(Clone, Copy)]
-pub enum By {
-    /// By the receiver's type; interface calls too.
-    Virtual,
-    Super,
-    Direct,
-    Static,
 }
 
 /// What a lock call does to its receiver.
@@ -409,7 +400,7 @@ pub fn op_of(usage: LockUse) -> Option<LockOp>
 fn call(app: &App, method: MethodNo, index: u32, op: u8, args: Args) -> Act
     requires method { method.0 < length app.now.methods }
     requires index { index < code_len app.now method.0 }
-    ensures { result ≡ Act.Call (spec.call_by op) (lock_use_at app.now method.0 index) args (spec.call_gives app.now (named_at app.now method.0 index)) }
+    ensures { result ≡ Act.Call (call_by op) (lock_use_at app.now method.0 index) args (spec.call_gives app.now (named_at app.now method.0 index)) }
 {
     Act::Call {
         by: call_by(op),
@@ -419,16 +410,6 @@ fn call(app: &App, method: MethodNo, index: u32, op: u8, args: Args) -> Act
     }
 }
 
-fn call_by(op: u8) -> By
-    ensures { result ≡ spec.call_by op }
-{
-    match op {
-        opcode::INVOKE_SUPER | opcode::INVOKE_SUPER_RANGE => By::Super,
-        opcode::INVOKE_DIRECT | opcode::INVOKE_DIRECT_RANGE => By::Direct,
-        opcode::INVOKE_STATIC | opcode::INVOKE_STATIC_RANGE => By::Static,
-        _ => By::Virtual,
-    }
-}
 
 fn call_gives(app: &App, named: Option<Named>) -> Gives
     ensures { result ≡ spec.call_gives app.now named }

@@ -10,7 +10,7 @@ mod changes;
 mod row;
 mod tags;
 
-pub use act::{Act, By, Gives, LockOp, Returned, Throws, Written, act_of, op_of};
+pub use act::{Act, Gives, LockOp, Returned, Throws, Written, act_of, op_of};
 pub use changes::{call_change, receiver_tag, stored_change, tag_after, tag_called, tag_thrown};
 pub use row::Row;
 pub use tags::join;

@@ -1,5 +1,5 @@
 //! Joins, and how an act changes the tags of a row.
-use crate::{Act, By, Gives, Returned, Throws, join, tag_after, tag_called, tag_thrown};
+use crate::{Act, Gives, Returned, Throws, join, tag_after, tag_called, tag_thrown};
 use app_model::{LockUse, Tag};
 use dalvik::Args;
 use ns_base::LockNo;

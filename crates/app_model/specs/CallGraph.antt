@@ -2,6 +2,8 @@
 use Rattle.std.specs.Prelude.{ℕ, ◌≡◌, ◌<◌, Bool, false, List, [], length, Option, Some, None, slice_get, slice_index_or}
 use Rattle.std.specs.List.{All, AllPairs}
 use Rattle.ns_base.specs.declared.rows.MethodNo.{MethodNo}
+use Rattle.app_model.specs.Parts.{AppParts}
+use Rattle.app_model.specs.Words.{code_len}
 
 -- methods of the application, and whether the call can lead outside it
 pub record TargetParts : Type 0 where
@@ -46,3 +48,9 @@ AreRising methods = AllPairs (λ (a b : MethodNo). a.0 < b.0) methods
 pub record IsGraph (graph : GraphParts) : Type 0 where
   pub uses : (m i s : ℕ) → use_at graph m i ≡ Some (Some s) → s < length graph.sets
   pub rising : All (λ (set : TargetParts). AreRising set.callees) graph.sets
+
+-- a row for each instruction, and methods of the application alone
+pub record FitsCode (app : AppParts) (graph : GraphParts) : Type 0 where
+  pub methods : length graph.uses ≡ length app.methods
+  pub rows : (m : ℕ) → length (slice_index_or graph.uses m []) ≡ code_len app m
+  pub callees : All (λ (set : TargetParts). All (λ (n : MethodNo). n.0 < length app.methods) set.callees) graph.sets

@@ -10,6 +10,8 @@ pub mod Index
 pub mod Slots
 pub mod Components
 pub mod CallGraph
+pub mod Targets
+pub mod Reach
 pub mod TagTable
 pub mod Subject
 pub mod Ancestors

@@ -1,14 +1,13 @@
 -- What the analysis speaks of: an application with its call graph, its component list and its tags.
 use Rattle.std.specs.Prelude.{ℕ, ◌≡◌, ◌<◌, ◌≤◌, ◌*◌, ◌==◌, Bool, true, false, if◌then◌else◌, List, [], length, map, Option, Some, None, Contains, slice_get, slice_index, slice_index_or}
 use Rattle.std.specs.Int.{bit_at}
-use Rattle.std.specs.List.{All}
 use Rattle.ns_base.specs.declared.rows.ComponentNo.{ComponentNo}
 use Rattle.ns_base.specs.declared.rows.LockNo.{LockNo}
 use Rattle.ns_base.specs.declared.rows.MethodNo.{MethodNo}
 use Rattle.app_model.specs.declared.rows.MethodRow.{MethodRow}
 use Rattle.app_model.specs.declared.tag.Tag.{Tag}
 use Rattle.app_model.specs.declared.tag.Tag.TheVariants.{Held, Field}
-use Rattle.app_model.specs.CallGraph.{GraphParts, TargetParts}
+use Rattle.app_model.specs.CallGraph.{GraphParts}
 use Rattle.app_model.specs.CallGraph as graph
 use Rattle.app_model.specs.Components.{ComponentParts, BelongsTo, callback_at}
 use Rattle.app_model.specs.Parts.{AppParts}
@@ -62,12 +61,6 @@ unfoldable pub slot_count : SubjectParts → ℕ
 slot_count x = length x.app.locks
 
 -- ---- what always holds of it
--- a row for each instruction, and methods of the application alone
-pub record FitsGraph (x : SubjectParts) : Type 0 where
-  pub methods : length x.graph.uses ≡ length x.app.methods
-  pub rows : (m : ℕ) → length (slice_index_or x.graph.uses m []) ≡ code_len x.app m
-  pub callees : All (λ (set : TargetParts). All (λ (n : MethodNo). n.0 < length x.app.methods) set.callees) x.graph.sets
-
 -- a row for each instruction of a method that is reached, and lock fields of the application alone
 pub record FitsTags (x : SubjectParts) : Type 0 where
   pub registers : x.tags.registers ≡ map (λ (method : MethodRow). method.registers) x.app.methods
@@ -85,7 +78,7 @@ pub record AreReached (x : SubjectParts) : Type 0 where
 pub record IsSubject (x : SubjectParts) : Type 0 where
   pub sound : IsSoundApp x.app
   pub list : BelongsTo x.app x.list
-  pub fits_graph : FitsGraph x
+  pub fits_graph : graph.FitsCode x.app x.graph
   pub fits_tags : FitsTags x
   pub reaches : AreReached x
   pub slots : slot_count x ≤ 64

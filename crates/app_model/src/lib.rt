@@ -7,12 +7,13 @@
 //! - `hierarchy` has the classes of types, and those above them.
 //! - `laws` has what holds of every application.
 //! - `tag` is what is known of a register's value; `tag_table` has it before each instruction.
-//! - `call_graph` has what each call can call.
+//! - `calls` says how a call finds its method; `call_graph` has what each call can call.
 //! - `subject` joins them: the rules read it.
 #![tactic(auto)]
 
 mod app;
 mod call_graph;
+mod calls;
 mod component;
 mod hierarchy;
 mod laws;
@@ -26,6 +27,7 @@ mod tag_table;
 
 pub use app::App;
 pub use call_graph::{CallGraph, TargetRow};
+pub use calls::{By, call_by};
 pub use component::{ComponentRow, ComponentTable, Edge, Kind};
 pub use laws::hierarchy_law;
 pub use lock_use::LockUse;

@@ -10,8 +10,8 @@ use Rattle.app_model.specs.declared.lock_use.LockUse.{LockUse}
 use Rattle.app_model.specs.declared.lock_use.LockUse.TheVariants.{Plain, Make, Acquire, Release, IsHeld, Mode, Wrong}
 use Rattle.act_model.specs.declared.act.Act.{Act}
 use Rattle.act_model.specs.declared.act.Act.TheVariants.{Go, Test, Copy, TakeResult, Write, Fill, ReadSlot, WriteSlot, Give, Check, Throw, Return, Call}
-use Rattle.act_model.specs.declared.act.By.{By}
-use Rattle.act_model.specs.declared.act.By.TheVariants.{Virtual, Super, Direct, Static}
+use Rattle.app_model.specs.declared.calls.By.{By}
+use Rattle.app_model.specs.declared.calls.By.TheVariants.{Virtual, Super, Direct, Static}
 use Rattle.act_model.specs.declared.act.Throws.{Throws}
 use Rattle.act_model.specs.declared.act.Throws.TheVariants.{Never, ByChoice, WhereZero}
 use Rattle.act_model.specs.Acts.{op_of}

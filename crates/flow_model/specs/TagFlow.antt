@@ -15,7 +15,7 @@ use Rattle.app_model.specs.declared.tag.Tag.{Tag}
 use Rattle.app_model.specs.declared.tag.Tag.TheVariants.{Bot, Zero, Any}
 use Rattle.act_model.specs.declared.act.Act.{Act}
 use Rattle.act_model.specs.declared.act.Act.TheVariants.{Go, Test, Copy, TakeResult, Write, Fill, ReadSlot, WriteSlot, Give, Check, Throw, Return, Call}
-use Rattle.act_model.specs.declared.act.By.{By}
+use Rattle.app_model.specs.declared.calls.By.{By}
 use Rattle.act_model.specs.declared.act.Gives.{Gives}
 use Rattle.act_model.specs.declared.act.Returned.{Returned}
 use Rattle.act_model.specs.declared.act.Returned.TheVariants as returned

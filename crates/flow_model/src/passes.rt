@@ -10,8 +10,8 @@ ghost use Rattle.flow_model.specs.Status as table;
 
 use crate::masks::has_status;
 use crate::status;
-use act_model::{Act, By, Row, Throws, op_of, receiver_tag};
-use app_model::{LockUse, Tag};
+use act_model::{Act, Row, Throws, op_of, receiver_tag};
+use app_model::{By, LockUse, Tag};
 use dalvik::Args;
 use ns_base::LockNo;
 

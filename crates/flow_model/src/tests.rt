@@ -4,8 +4,8 @@ use crate::{
     held_test, image, is_escape, is_open, is_own, is_wrong_call, null_test, pass_mask, stores_new,
     throw_mask,
 };
-use act_model::{Act, By, Gives, Throws};
-use app_model::{LockUse, Tag};
+use act_model::{Act, Gives, Throws};
+use app_model::{By, LockUse, Tag};
 use dalvik::Args;
 use ns_base::LockNo;
 

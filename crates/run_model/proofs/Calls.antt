@@ -8,8 +8,8 @@ use Rattle.app_model.specs.declared.tag.Tag.TheVariants as tag
 use Rattle.app_model.specs.declared.lock_use.LockUse.{LockUse}
 use Rattle.app_model.specs.declared.lock_use.LockUse.TheVariants.{Plain, Make, Acquire, Release, IsHeld, Mode, Wrong}
 use Rattle.app_model.specs.Words.{named_at}
-use Rattle.act_model.specs.declared.act.By.{By}
-use Rattle.act_model.specs.declared.act.By.TheVariants.{Virtual, Super, Direct, Static}
+use Rattle.app_model.specs.declared.calls.By.{By}
+use Rattle.app_model.specs.declared.calls.By.TheVariants.{Virtual, Super, Direct, Static}
 use Rattle.act_model.specs.declared.act.Gives.{Gives}
 use Rattle.act_model.specs.declared.act.LockOp.{LockOp}
 use Rattle.act_model.specs.declared.act.LockOp.TheVariants as ops

@@ -9,7 +9,7 @@ use Rattle.app_model.specs.declared.tag.Tag.{Tag}
 use Rattle.app_model.specs.declared.tag.Tag.TheVariants as tag
 use Rattle.app_model.specs.declared.lock_use.LockUse.{LockUse}
 use Rattle.app_model.specs.declared.lock_use.LockUse.TheVariants.{Plain, Make, Acquire, Release, IsHeld, Mode, Wrong}
-use Rattle.act_model.specs.declared.act.By.{By}
+use Rattle.app_model.specs.declared.calls.By.{By}
 use Rattle.act_model.specs.declared.act.Gives.{Gives}
 use Rattle.act_model.specs.declared.act.LockOp.{LockOp}
 use Rattle.act_model.specs.declared.act.LockOp.TheVariants as ops

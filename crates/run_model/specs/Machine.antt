@@ -25,8 +25,8 @@ use Rattle.app_model.specs.Subject.{SubjectParts, slot_count}
 use Rattle.app_model.specs.Words.{place_at, successor_at, leaves_at, named_at}
 use Rattle.act_model.specs.declared.act.Act.{Act}
 use Rattle.act_model.specs.declared.act.Act.TheVariants.{Go, Test, Copy, TakeResult, Write, Fill, ReadSlot, WriteSlot, Give, Check, Throw, Return, Call}
-use Rattle.act_model.specs.declared.act.By.{By}
-use Rattle.act_model.specs.declared.act.By.TheVariants.{Virtual, Super, Direct, Static}
+use Rattle.app_model.specs.declared.calls.By.{By}
+use Rattle.app_model.specs.declared.calls.By.TheVariants.{Virtual, Super, Direct, Static}
 use Rattle.act_model.specs.declared.act.Gives.{Gives}
 use Rattle.act_model.specs.declared.act.Gives.TheVariants as gives
 use Rattle.act_model.specs.declared.act.LockOp.{LockOp}

@@ -10,7 +10,7 @@ use Rattle.app_model.specs.Subject.{SubjectParts, outside_at, row_at}
 use Rattle.app_model.specs.Words.{successor_at, handler_at}
 use Rattle.act_model.specs.declared.act.Act.{Act}
 use Rattle.act_model.specs.declared.act.Act.TheVariants.{Call}
-use Rattle.act_model.specs.declared.act.By.{By}
+use Rattle.app_model.specs.declared.calls.By.{By}
 use Rattle.act_model.specs.declared.act.Gives.{Gives}
 use Rattle.act_model.specs.Acts.{act_at}
 use Rattle.act_model.specs.Changes.{tag_in, after, thrown}

@@ -11,7 +11,7 @@ use Rattle.app_model.specs.Slots.{slot_at}
 use Rattle.app_model.specs.Words.{ins_at}
 use Rattle.act_model.specs.declared.act.Act.{Act}
 use Rattle.act_model.specs.declared.act.Act.TheVariants.{Call}
-use Rattle.act_model.specs.declared.act.By.{By}
+use Rattle.app_model.specs.declared.calls.By.{By}
 use Rattle.act_model.specs.declared.act.Gives.{Gives}
 use Rattle.act_model.specs.declared.act.Throws.{Throws}
 use Rattle.act_model.specs.declared.act.Throws.TheVariants.{Never, WhereZero}

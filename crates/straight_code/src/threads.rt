@@ -8,8 +8,8 @@ ghost use Rattle.straight_code.specs.Scope.{IsThread, IsThreadCall};
 ghost use Rattle.straight_code.specs.Verdict.{IsSmallApp};
 
 use crate::body::CALLBACK;
-use act_model::{Act, By};
-use app_model::App;
+use act_model::Act;
+use app_model::{App, By};
 use ns_base::{ClassNo, TypeNo};
 
 const EXECUTORS: &[u8] = b"Ljava/util/concurrent/Executors;";
