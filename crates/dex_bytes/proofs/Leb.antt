@@ -1,9 +1,9 @@
 -- What an accepted LEB128 number says of its place.
-use Rattle.std.proofs.Common.{◌≡◌, ℕ, zero, suc, ◌+◌, ◌<◌, ◌≤◌, List, [], ◌∷◌, length, drop, Bool, true, false, nat_lt, cond, Ok, Err, refl, ap, arith, length-drop, ◌∙◌}
+use Rattle.std.proofs.Common.{◌≡◌, ℕ, zero, suc, ◌+◌, ◌<◌, ◌≤◌, List, [], ◌∷◌, length, drop, Bool, true, false, nat_lt, ◌&&◌, ◌||◌, cond, Result, Ok, Err, refl, sym, ap, subst, arith, length-drop, ◌∙◌}
 use Rattle.std.proofs.Math.ListN.{drop_of_length-le}
 use Rattle.dex_bytes.specs.declared.fault.DexFault.{DexFault}
 use Rattle.dex_bytes.specs.declared.fault.DexFault.TheVariants.{Short, Leb}
-use Rattle.dex_bytes.specs.Leb128.{groups_of, group_sum, uleb_of, uleb_at}
+use Rattle.dex_bytes.specs.Leb128.{groups_of, group_sum, ends_at_most, is_cut, uleb_of, uleb_at}
 use Rattle.dex_bytes.specs.Places.{uleb_value, uleb_next, IsUleb, number_place, number_at}
 
 ended : (b : ℕ) (more bs : List ℕ) (t : Bool) → length more ≤ length bs → length (b ∷ cond t [] more) ≤ length (b ∷ bs)

@@ -1,6 +1,7 @@
 -- What stands at a place of a file: LEB128 numbers one after another, and text that a zero byte ends.
-use Rattle.std.specs.Prelude.{ℕ, zero, suc, ◌+◌, ◌≡◌, ◌==◌, List, length, drop, Ok}
+use Rattle.std.specs.Prelude.{ℕ, zero, suc, ◌+◌, ◌≡◌, ◌==◌, List, length, drop, Ok, Result}
 use Rattle.std.specs.List.{before_first}
+use Rattle.dex_bytes.specs.declared.fault.DexFault.{DexFault}
 use Rattle.dex_bytes.specs.Leb128.{groups_of, group_sum, uleb_at}
 
 -- the unsigned LEB128 number at a place
