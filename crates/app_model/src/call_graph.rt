@@ -48,6 +48,13 @@ impl CallGraph {
         CallGraph { sets, uses }
     }
 
+    /// What holds of each call graph.
+    pub fn told(&self)
+        ensures { IsGraph self.now }
+    {
+        let _ = &self.sets;
+    }
+
     /// The methods that an instruction can call, rising; none where it is no call.
     pub fn callees(&self, method: MethodNo, index: u32) -> &[MethodNo]
         ensures callees { result.now ≡ callees_at self.now method.0 index }
