@@ -1,5 +1,5 @@
 -- Words of bits at nodes, which links take on.
-use Rattle.std.specs.Prelude.{ℕ, ◌≡◌, ◌<◌, ◌-◌, ◌^◌, ◌↔◌, Bool, true, false, List, Contains, length, slice_index}
+use Rattle.std.specs.Prelude.{ℕ, ◌≡◌, ◌<◌, ◌-◌, ◌^◌, ◌↔◌, Bool, true, false, List, Contains, length, slice_index, slice_index_or}
 use Rattle.std.specs.Int.{bit_at}
 use Rattle.std.specs.List.{All, sum_by}
 use Rattle.call_targets.specs.declared.links.Link.{Link}

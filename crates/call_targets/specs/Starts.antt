@@ -1,5 +1,5 @@
 -- Reach and stores as bits: what they begin with, and what they come to.
-use Rattle.std.specs.Prelude.{ℕ, ◌≡◌, ◌<◌, ◌==◌, ◌⊎◌, ◌↔◌, Bool, true, false, List, Contains, length, slice_index, slice_index_or}
+use Rattle.std.specs.Prelude.{ℕ, ◌≡◌, ◌<◌, ◌≤◌, ◌==◌, ◌⊎◌, ◌↔◌, Bool, true, false, List, Contains, length, slice_index, slice_index_or}
 use Rattle.std.specs.Int.{bit_at}
 use Rattle.ns_base.specs.declared.rows.MethodNo.{MethodNo}
 use Rattle.app_model.specs.CallGraph.{GraphParts}
@@ -22,7 +22,7 @@ pub record AreGiven (from : List MethodNo) (old new : List ℕ) : Type 0 where
 
 -- a mark for each method: whether calls reach it
 pub record AreReached (app : AppParts) (graph : GraphParts) (from : List MethodNo) (marks : List Bool) : Type 0 where
-  pub marks : (m : ℕ) → m < length app.methods → (slice_index_or marks m false ≡ true) ↔ IsReached graph from m
+  pub exact : (m : ℕ) → m < length app.methods → (slice_index_or marks m false ≡ true) ↔ IsReached graph from m
   pub len : length marks ≡ length app.methods
 
 -- ---- stores: a bit for each lock field
@@ -37,5 +37,5 @@ pub record AreStores (app : AppParts) (bound : ℕ) (old new : List ℕ) : Type 
 
 -- a mask for each method: the lock fields to which its reach stores
 pub record AreAssigned (app : AppParts) (graph : GraphParts) (masks : List ℕ) : Type 0 where
-  pub masks : (m l : ℕ) → m < length app.methods → l < 64 → Has masks m l ↔ Assigns app graph m l
+  pub exact : (m l : ℕ) → m < length app.methods → l < 64 → Has masks m l ↔ Assigns app graph m l
   pub len : length masks ≡ length app.methods

@@ -1,7 +1,7 @@
 //! Links between the methods of an application and the sets of what calls can call. A node is a method by
 //! its number, or past all methods a set by its number.
 ghost use Rattle.std.specs.Prelude.{◌≡◌, ◌<◌, ◌+◌, ◌^◌, ◌++◌, ◌∷◌, [], IfOk, IfSome, length};
-ghost use Rattle.app_model.specs.CallGraph.{FitsCode};
+ghost use Rattle.app_model.specs.CallGraph.{FitsCode, IsGraph};
 ghost use Rattle.call_targets.specs.Net.{link_by, UsesAt, UsesIn, Uses, HasAt, HasIn, Haves, Adds, AreLinks};
 
 use crate::links::{Link, Links};
@@ -53,7 +53,8 @@ fn add_use(
     method: u32,
     index: u32,
 ) -> Result<(), AllocError>
-    requires { methods + length graph.now.sets < 2 ^ 32 }
+    requires graph { IsGraph graph.now }
+    requires nodes { methods + length graph.now.sets < 2 ^ 32 }
     ensures { IfOk result (λ done. Adds (UsesAt graph.now way methods method index) links.old links.new) }
 {
     match graph.set_used(MethodNo(method), index) {
@@ -69,6 +70,7 @@ fn add_uses(
     links: &mut Links,
     method: u32,
 ) -> Result<(), AllocError>
+    requires graph { IsGraph graph.now }
     requires fits { FitsCode app.now graph.now }
     requires nodes { length app.now.methods + length graph.now.sets < 2 ^ 32 }
     requires method { method < length app.now.methods }
@@ -87,6 +89,7 @@ fn add_all_uses(
     way: Way,
     links: &mut Links,
 ) -> Result<(), AllocError>
+    requires graph { IsGraph graph.now }
     requires fits { FitsCode app.now graph.now }
     requires nodes { length app.now.methods + length graph.now.sets < 2 ^ 32 }
     ensures { IfOk result (λ done. Adds (Uses graph.now way (length app.now.methods)) links.old links.new) }
@@ -144,6 +147,7 @@ pub(crate) fn links_of(
     requires nodes { nodes ≡ length app.now.methods + length graph.now.sets }
     ensures { IfOk result (AreLinks graph.now way (length app.now.methods)) }
 {
+    graph.told();
     let mut links = Links::new(alloc, nodes as usize)?;
     add_all_uses(app, graph, way, &mut links)?;
     add_all_callees(graph, way, &mut links, app.method_count(), nodes)?;

@@ -1,5 +1,5 @@
 //! The methods that calls reach.
-ghost use Rattle.std.specs.Prelude.{◌≡◌, ◌<◌, ◌+◌, ◌↔◌, ◌==◌, ℕ, IfOk, length, map, replicate, slice_index, slice_index_or, take, true};
+ghost use Rattle.std.specs.Prelude.{◌≡◌, ◌<◌, ◌≤◌, ◌+◌, IfOk, length, map, take};
 ghost use Rattle.std.specs.Int.{bit_at};
 ghost use Rattle.std.specs.List.{All};
 ghost use Rattle.ns_base.specs.declared.rows.MethodNo.{MethodNo};
