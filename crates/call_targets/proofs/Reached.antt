@@ -1,5 +1,5 @@
 -- The first bit spread to callees is reach.
-use Rattle.std.proofs.Common.{◌≡◌, ℕ, ◌+◌, ◌≤◌, ◌<◌, ◌++◌, ◌∷◌, [], List, length, Bool, true, false, map, take, set, replicate, refl, sym, ap, ap₂, length-set, take_all, length-take-le, ◌∙◌, subst, inl, inr, ⊎_elim, arith, eqb, eq-eqb, eqb-true, Contains, Option, Some, None, slice_get, get_or}
+use Rattle.std.proofs.Common.{◌≡◌, ℕ, Result, Ok, Err, IfOk, ◌+◌, ◌≤◌, ◌<◌, ◌++◌, ◌∷◌, [], List, length, Bool, true, false, map, take, set, replicate, refl, sym, ap, ap₂, length-set, take_all, length-take-le, ◌∙◌, subst, inl, inr, ⊎_elim, arith, eqb, eq-eqb, eqb-true, Contains, Option, Some, None, slice_get, get_or}
 use Rattle.std.specs.Prelude.{◌⊎◌, ◌↔◌}
 use Rattle.std.specs.List.{All}
 use Rattle.std.specs.Int.{bit_at}
@@ -83,8 +83,8 @@ zero_bit n m bit h = ⊎_elim
 pub given_none : (from : List MethodNo) (words : List ℕ) → AreGiven (take 0 from) words words
 given_none from words = record { given = λ m g. absurd (omega (arith, g.1.1)); only = λ m h. inl h; len = refl }
 
-pub given_more : (from : List MethodNo) (i : ℕ) (one : MethodNo) (a b : List ℕ) → one ≡ get_or from i one → i < length from → one.0 < length b → AreGiven (take i from) a b → AreGiven (take (i + 1) from) a (set b one.0 1)
-given_more from i one a b read within low g = subst (λ (xs : List MethodNo). AreGiven xs a (set b one.0 1)) (sym (take_more from i one within ∙ ap (λ (x : MethodNo). take i from ++ x ∷ []) (sym read))) (record {
+pub given_more : (from : List MethodNo) (i : ℕ) (one : MethodNo) (a b : List ℕ) → ((d : MethodNo) → one ≡ get_or from i d) → i < length from → one.0 < length b → AreGiven (take i from) a b → AreGiven (take (i + 1) from) a (set b one.0 1)
+given_more from i one a b read within low g = subst (λ (xs : List MethodNo). AreGiven xs a (set b one.0 1)) (sym (take_more from i one within ∙ ap (λ (x : MethodNo). take i from ++ x ∷ []) (sym (read one)))) (record {
   given = λ m h. ⊎_elim (λ old. keep m (g.given m (h.0, old, h.2))) (λ new. here m (ap (λ (x : MethodNo). x.0) new ∙ h.2)) (Contains-push_cases (take i from) one h.0 h.1);
   only = λ m h. ⊎_elim
       (λ is. inr (one, Contains-push (take i from) one, sym is))
@@ -134,3 +134,7 @@ module _ (app : AppParts) (graph : GraphParts) (fits : FitsCode app graph) (from
           let begun : (n : ℕ) → IsGiven from n → Spreads links (λ (k : ℕ). Has start k 0) n = λ n g. begins (given_start.given n g) in
           let bit : Has words m 0 = (spread.exact m 0).1 (spread_on links (IsGiven from) (λ (n : ℕ). Has start n 0) begun m (complete app graph fits from inside links are m reached)) in
           mark_at m lt ∙ eq-eqb (bit_at (get_or words m 0) 0) 1 bit
+
+pub ok_then : {T E : Type 0} (P Q : T → Type 0) (result : Result T E) → ((value : T) → P value → Q value) → IfOk result P → IfOk result Q
+ok_then P Q (Ok value) why known = why value known
+ok_then P Q (Err e) why known = known

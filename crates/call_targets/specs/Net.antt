@@ -3,6 +3,7 @@ use Rattle.std.specs.Prelude.{ℕ, ◌≡◌, ◌<◌, ◌+◌, ◌⊎◌, List,
 use Rattle.ns_base.specs.declared.rows.MethodNo.{MethodNo}
 use Rattle.app_model.specs.CallGraph.{GraphParts, callees_of, use_at}
 use Rattle.call_targets.specs.declared.links.Link.{Link}
+use Rattle.call_targets.specs.Spread.{IsSpread}
 use Rattle.call_targets.specs.declared.net.Way.{Way}
 use Rattle.call_targets.specs.declared.net.Way.TheVariants.{ToCallees, ToCallers}
 
@@ -36,6 +37,10 @@ module _ (graph : GraphParts) (way : Way) (methods : ℕ) where
     pub only : (link : Link) → Contains links link → Uses link ⊎ Haves link
     pub uses : (link : Link) → Uses link → Contains links link
     pub has : (link : Link) → Haves link → Contains links link
+
+  -- the bits of all nodes were taken on
+  abbrev pub IsCarried : (old new : List ℕ) → Type 0
+  IsCarried old new = (links : List Link) × AreLinks links × IsSpread links old new
 
 -- a row of links got these
 pub record Adds (These : Link → Type 0) (old new : List Link) : Type 0 where

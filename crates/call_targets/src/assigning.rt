@@ -1,13 +1,12 @@
 //! The lock fields to which the reach of each method stores.
-ghost use Rattle.std.specs.Prelude.{◌≡◌, ◌<◌, ◌+◌, ◌≤◌, ◌↔◌, ℕ, IfOk, Some, length, take};
+ghost use Rattle.std.specs.Prelude.{◌≡◌, ◌<◌, ◌+◌, ◌≤◌, ◌↔◌, ℕ, IfOk, Some, length, replicate};
 ghost use Rattle.std.specs.Int.{bit_at};
 ghost use Rattle.app_model.specs.Reach.{StoresAt, is_object_store};
 ghost use Rattle.app_model.specs.Targets.{IsCallGraph};
 ghost use Rattle.app_model.specs.Words.{code_len};
 ghost use Rattle.call_targets.specs.Starts.{AreAssigned, AreStores, Stores};
 
-use crate::net::{Way, links_of, node_count};
-use crate::spread::spread;
+use crate::net::{Way, carry, node_count};
 use app_model::{App, CallGraph};
 use dalvik::{Ins, opcode};
 use ns_base::{LockNo, MethodNo, OutOfMemory};
@@ -66,6 +65,16 @@ fn own_stores(app: &App, words: &mut [u64])
     }
 }
 
+// A word for each node: the own stores of the methods.
+fn own_words(alloc: Global, app: &App, nodes: u32) -> Result<Vec<u64>, AllocError>
+    requires { length app.now.methods ≤ nodes }
+    ensures { IfOk result (λ words. AreStores app.now (length app.now.methods) (replicate nodes 0) words.items) }
+{
+    let mut words = vec![in alloc; 0; nodes as usize]?;
+    own_stores(app, &mut words);
+    Ok(words)
+}
+
 fn find_assigned(
     alloc: Global,
     app: &App,
@@ -76,10 +85,8 @@ fn find_assigned(
     requires nodes { nodes ≡ length app.now.methods + length graph.now.sets }
     ensures { IfOk result (λ masks. AreAssigned app.now graph.now masks.items) }
 {
-    let links = links_of(alloc, app, graph, Way::ToCallers, nodes)?;
-    let mut words = vec![in alloc; 0; nodes as usize]?;
-    own_stores(app, &mut words);
-    spread(alloc, &links, &mut words)?;
+    let mut words = own_words(alloc, app, nodes)?;
+    carry(alloc, app, graph, Way::ToCallers, &mut words)?;
     words.truncate(app.method_count() as usize);
     Ok(words)
 }

@@ -2,9 +2,11 @@
 //! its number, or past all methods a set by its number.
 ghost use Rattle.std.specs.Prelude.{◌≡◌, ◌<◌, ◌+◌, ◌^◌, ◌++◌, ◌∷◌, [], IfOk, IfSome, length};
 ghost use Rattle.app_model.specs.CallGraph.{FitsCode, IsGraph};
-ghost use Rattle.call_targets.specs.Net.{link_by, UsesAt, UsesIn, Uses, HasAt, HasIn, Haves, Adds, AreLinks};
+ghost use Rattle.call_targets.specs.Net.{link_by, UsesAt, UsesIn, Uses, HasAt, HasIn, Haves, Adds, AreLinks, IsCarried};
+ghost use Rattle.call_targets.specs.Spread.{AreWithin};
 
 use crate::links::{Link, Links};
+use crate::spread::spread;
 use app_model::{App, CallGraph};
 use ns_base::MethodNo;
 use std::alloc::{AllocError, Global};
@@ -124,32 +126,48 @@ fn add_all_callees(
     way: Way,
     links: &mut Links,
     methods: u32,
-    nodes: u32,
 ) -> Result<(), AllocError>
-    requires { nodes ≡ methods + length graph.now.sets }
+    requires { methods + length graph.now.sets < 2 ^ 32 }
     ensures { IfOk result (λ done. Adds (Haves graph.now way methods) links.old links.new) }
 {
-    for set in 0..nodes - methods {
+    for set in 0..graph.set_count() as u32 {
         add_callees(graph, way, links, methods, set)?;
     }
     Ok(())
 }
 
-/// The links of an application's methods and sets.
-pub(crate) fn links_of(
+fn links_of(
     alloc: Global,
     app: &App,
     graph: &CallGraph,
     way: Way,
-    nodes: u32,
+    nodes: usize,
 ) -> Result<Links, AllocError>
     requires fits { FitsCode app.now graph.now }
-    requires nodes { nodes ≡ length app.now.methods + length graph.now.sets }
-    ensures { IfOk result (AreLinks graph.now way (length app.now.methods)) }
+    requires nodes { length app.now.methods + length graph.now.sets < 2 ^ 32 }
+    ensures links { IfOk result (AreLinks graph.now way (length app.now.methods)) }
+    ensures within { IfOk result (AreWithin (length app.now.methods + length graph.now.sets)) }
 {
     graph.told();
-    let mut links = Links::new(alloc, nodes as usize)?;
+    let mut links = Links::new(alloc, nodes)?;
     add_all_uses(app, graph, way, &mut links)?;
-    add_all_callees(graph, way, &mut links, app.method_count(), nodes)?;
+    add_all_callees(graph, way, &mut links, app.method_count())?;
     Ok(links)
+}
+
+/// Takes the bits of all nodes on to their callees, or to their callers.
+pub(crate) fn carry(
+    alloc: Global,
+    app: &App,
+    graph: &CallGraph,
+    way: Way,
+    words: &mut [u64],
+) -> Result<(), AllocError>
+    requires fits { FitsCode app.now graph.now }
+    requires nodes { length app.now.methods + length graph.now.sets < 2 ^ 32 }
+    requires words { length words.old ≡ length app.now.methods + length graph.now.sets }
+    ensures { IfOk result (λ done. IsCarried graph.now way (length app.now.methods) words.old words.new) }
+{
+    let links = links_of(alloc, app, graph, way, words.len())?;
+    spread(alloc, &links, words)
 }

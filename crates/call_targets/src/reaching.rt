@@ -1,5 +1,5 @@
 //! The methods that calls reach.
-ghost use Rattle.std.specs.Prelude.{◌≡◌, ◌<◌, ◌≤◌, ◌+◌, IfOk, length, map, take};
+ghost use Rattle.std.specs.Prelude.{◌≡◌, ◌<◌, ◌≤◌, ◌+◌, IfOk, length, map, replicate, take};
 ghost use Rattle.std.specs.Int.{bit_at};
 ghost use Rattle.std.specs.List.{All};
 ghost use Rattle.ns_base.specs.declared.rows.MethodNo.{MethodNo};
@@ -8,8 +8,7 @@ ghost use Rattle.app_model.specs.Targets.{IsCallGraph};
 ghost use Rattle.call_targets.specs.Spread.{Has};
 ghost use Rattle.call_targets.specs.Starts.{AreReached, AreGiven, has_first_bit};
 
-use crate::net::{Way, links_of, node_count};
-use crate::spread::spread;
+use crate::net::{Way, carry, node_count};
 use app_model::{App, CallGraph};
 use ns_base::{MethodNo, OutOfMemory};
 use std::alloc::{AllocError, Global};
@@ -21,6 +20,16 @@ fn give(words: &mut [u64], from: &[MethodNo])
     for i in 0..from.len() {
         words[from[i].0 as usize] = 1;
     }
+}
+
+// A word for each node: one for the given methods.
+fn given_words(alloc: Global, from: &[MethodNo], nodes: u32) -> Result<Vec<u64>, AllocError>
+    requires { All (λ (m : MethodNo). m.0 < nodes) from.now }
+    ensures { IfOk result (λ words. AreGiven from.now (replicate nodes 0) words.items) }
+{
+    let mut words = vec![in alloc; 0; nodes as usize]?;
+    give(&mut words, from);
+    Ok(words)
 }
 
 fn has_first_bit(word: u64) -> bool
@@ -52,10 +61,8 @@ fn find_reached(
     requires nodes { nodes ≡ length app.now.methods + length graph.now.sets }
     ensures { IfOk result (λ marks. AreReached app.now graph.now from.now marks.items) }
 {
-    let links = links_of(alloc, app, graph, Way::ToCallees, nodes)?;
-    let mut words = vec![in alloc; 0; nodes as usize]?;
-    give(&mut words, from);
-    spread(alloc, &links, &mut words)?;
+    let mut words = given_words(alloc, from, nodes)?;
+    carry(alloc, app, graph, Way::ToCallees, &mut words)?;
     marks_of(alloc, &words, app.method_count())
 }
 

@@ -6,4 +6,4 @@ pub loop-method-init : goal.loop-method-init
 loop-method-init c = stores_none _ _
 
 pub loop-method-preserved : goal.loop-method-preserved
-loop-method-preserved c = ?
+loop-method-preserved c = stores_more _ _ _ _ _ (omega (arith, c.requires, c.loop-method.auto.words, c.loop-method-test.true, c.method_count-method-end.ensures)) c.stores_of.ensures c.loop-method.invariant

@@ -8,4 +8,4 @@ loop-set-preserved c =
     adds_more (HasIn c.args.graph.now c.args.way c.args.methods) c.loop-set.set c.args.links.now c.loop-set.links c.add_callees.new.links c.loop-set.invariant c.in_ok-add_callees.ensures
 
 pub returns : goal.returns
-returns c = haves_whole c.args.graph.now c.args.way c.args.methods c.loop-set.set c.args.links.now c.loop-set.links (omega (arith, c.loop-set-test.false, c.requires)) c.loop-set.invariant
+returns c = haves_whole c.args.graph.now c.args.way c.args.methods c.loop-set.set c.args.links.now c.loop-set.links (omega (arith, c.loop-set-test.false, c.set_count-set-end.ensures.count)) c.loop-set.invariant
