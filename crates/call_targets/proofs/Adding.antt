@@ -1,13 +1,12 @@
 -- Rows of links that grow, and that the links of a call graph lie between its nodes.
 use Rattle.std.proofs.Common.{◌≡◌, ℕ, ◌+◌, ◌≤◌, ◌<◌, ◌++◌, ◌∷◌, [], List, length, refl, sym, ap, ◌∙◌, subst, inl, inr, ⊎_elim, arith, Contains, Option, Some, None, slice_get, get_or}
-use Rattle.std.specs.Prelude.{◌⊎◌, ◌↔◌}
 use Rattle.std.specs.List.{All}
 use Rattle.std.proofs.lemmas.Bool.{cases_lt}
 use Rattle.std.proofs.lemmas.List.{get_or_past}
-use Rattle.std.proofs.lemmas.List.Elements.{All-contains, Contains-append_left, Contains-push, Contains-push_cases}
+use Rattle.std.proofs.lemmas.List.Elements.{Contains-append_left, Contains-push, Contains-push_cases}
 use Rattle.std.proofs.lemmas.Option.{slice_get_within, get_or_from_slice_get}
 use Rattle.ns_base.specs.declared.rows.MethodNo.{MethodNo}
-use Rattle.app_model.specs.CallGraph.{FitsCode, GraphParts, IsGraph, TargetParts, callees_of, set_number, targets_of, use_at}
+use Rattle.app_model.specs.CallGraph.{FitsCode, GraphParts, IsGraph, TargetParts, callees_of, targets_of, use_at}
 use Rattle.app_model.specs.Parts.{AppParts}
 use Rattle.app_model.specs.Words.{code_len}
 use Rattle.call_targets.specs.declared.links.Link.{Link}
@@ -47,27 +46,8 @@ adds_whole At bound a b within f = record {
   all = λ link t. f.all link (t.0, within t.0 link t.1, t.1);
 }
 
--- ---- the set that an instruction uses
-some_number : (found : Option (Option ℕ)) (s : ℕ) → set_number found ≡ Some s → found ≡ Some (Some s)
-some_number None s e = let no : ◌≡◌ {A = Option ℕ} None (Some s) = e in cc
-some_number (Some None) s e = let no : ◌≡◌ {A = Option ℕ} None (Some s) = e in cc
-some_number (Some (Some t)) s e = ap Some e
-
-one_number : (found : Option (Option ℕ)) (s t : ℕ) → found ≡ Some (Some s) → set_number found ≡ Some t → s ≡ t
-one_number found s t is e = let both : ◌≡◌ {A = Option ℕ} (Some s) (Some t) = sym (ap set_number is) ∙ e in cc
-
-no_number : (found : Option (Option ℕ)) (s : ℕ) → found ≡ Some (Some s) → set_number found ≡ None → ⊥
-no_number found s is e = let both : ◌≡◌ {A = Option ℕ} (Some s) None = sym (ap set_number is) ∙ e in cc
-
+-- ---- a method that a set has
 module _ (graph : GraphParts) (way : Way) (methods : ℕ) where
-  pub use_adds : (m i s : ℕ) (old new : List Link) → set_number (use_at graph m i) ≡ Some s → new ≡ old ++ link_by way m (methods + s) ∷ [] → Adds (UsesAt graph way methods m i) old new
-  use_adds m i s old new is e = adds_one (UsesAt graph way methods m i) old new (link_by way m (methods + s)) e
-      (s, some_number (use_at graph m i) s is, refl)
-      (λ link t. t.2 ∙ ap (λ (n : ℕ). link_by way m (methods + n)) (one_number (use_at graph m i) t.0 s t.1 is))
-
-  pub use_none : (m i : ℕ) (links : List Link) → set_number (use_at graph m i) ≡ None → Adds (UsesAt graph way methods m i) links links
-  use_none m i links off = adds_none (UsesAt graph way methods m i) links (λ link t. no_number (use_at graph m i) t.0 t.1 off)
-
   pub has_adds : (s k : ℕ) (n : MethodNo) (old new : List Link) → slice_get (callees_of graph s) k ≡ Some n → new ≡ old ++ link_by way (methods + s) n.0 ∷ [] → Adds (HasAt graph way methods s k) old new
   has_adds s k n old new is e = adds_one (HasAt graph way methods s k) old new (link_by way (methods + s) n.0) e
       (n, is, refl)
@@ -80,9 +60,6 @@ use_in_row graph m i s is = slice_get_within (get_or graph.uses m []) i s is
 
 pub row_in : (graph : GraphParts) (m i : ℕ) → i < length (get_or graph.uses m []) → m < length graph.uses
 row_in graph m i lt = ⊎_elim (λ l. l) (λ past. absurd (let e = get_or_past graph.uses m [] past in let h : i < 0 = rw e at lt in omega arith)) (cases_lt m (length graph.uses))
-
-pub set_within : (graph : GraphParts) (m i s : ℕ) → IsGraph graph → set_number (use_at graph m i) ≡ Some s → s < length graph.sets
-set_within graph m i s sound is = sound.uses m i s (some_number (use_at graph m i) s is)
 
 pub callees_within : (graph : GraphParts) (s k : ℕ) (n : MethodNo) → slice_get (callees_of graph s) k ≡ Some n → s < length graph.sets
 callees_within graph s k n is = go (slice_get graph.sets s) refl is

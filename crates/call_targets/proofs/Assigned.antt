@@ -1,14 +1,14 @@
 -- Own stores spread to callers are the stores of the reach.
-use Rattle.std.proofs.Common.{◌≡◌, ◌≢◌, ℕ, ◌+◌, ◌*◌, ◌%◌, ◌^◌, ◌≤◌, ◌<◌, ◌∷◌, [], List, length, Bool, true, false, take, set, replicate, refl, sym, ap, ◌∙◌, subst, inl, inr, ⊎_elim, arith, Contains, Option, Some, None, slice_get, get_or, bit_or, w64, length-set, length-take-le}
-use Rattle.std.specs.Prelude.{◌⊎◌, ◌↔◌}
+use Rattle.std.proofs.Common.{◌≡◌, ℕ, ◌+◌, ◌*◌, ◌%◌, ◌^◌, ◌≤◌, ◌<◌, ◌∷◌, [], List, length, Bool, true, false, take, set, replicate, refl, sym, ap, ◌∙◌, subst, ⊎_elim, arith, Contains, Option, Some, None, slice_get, get_or, bit_or, w64, length-set, length-take-le}
+use Rattle.std.specs.Prelude.{◌↔◌}
 use Rattle.std.specs.Int.{bit_at}
 use Rattle.std.proofs.lemmas.Bool.{cases_eq, cases_lt}
-use Rattle.std.proofs.lemmas.List.{get_or-set_other, get_or-set_same, get_or-take, get_or_past, length-replicate}
+use Rattle.std.proofs.lemmas.List.{get_or-set_other, get_or-set_same, get_or-take, length-replicate}
 use Rattle.std.proofs.lemmas.Nat.Bits.{bit_at-zero, bit_at_set_other, bit_at_set_same}
-use Rattle.std.proofs.lemmas.Option.{slice_get_within, get_or_from_slice_get}
+use Rattle.std.proofs.lemmas.Option.{slice_get_within}
 use Rattle.dalvik.specs.declared.body.Place.{Place}
 use Rattle.ns_base.specs.declared.rows.MethodNo.{MethodNo}
-use Rattle.app_model.specs.CallGraph.{FitsCode, GraphParts, callees_at, callees_of, use_at}
+use Rattle.app_model.specs.CallGraph.{FitsCode, GraphParts, callees_at, callees_of}
 use Rattle.app_model.specs.Parts.{AppParts}
 use Rattle.app_model.specs.Reach.{Assigns, IsReached, given, called, StoresAt, is_object_store}
 use Rattle.app_model.specs.Words.{code_len, ins_of, place_at, places_of}

@@ -1,6 +1,5 @@
 -- The first bit spread to callees is reach.
-use Rattle.std.proofs.Common.{◌≡◌, ℕ, Result, Ok, Err, IfOk, ◌+◌, ◌≤◌, ◌<◌, ◌++◌, ◌∷◌, [], List, length, Bool, true, false, map, take, set, replicate, refl, sym, ap, ap₂, length-set, take_all, length-take-le, ◌∙◌, subst, inl, inr, ⊎_elim, arith, eqb, eq-eqb, eqb-true, Contains, Option, Some, None, slice_get, get_or}
-use Rattle.std.specs.Prelude.{◌⊎◌, ◌↔◌}
+use Rattle.std.proofs.Common.{◌≡◌, ℕ, Result, Ok, Err, IfOk, ◌+◌, ◌≤◌, ◌<◌, ◌++◌, ◌∷◌, [], List, length, Bool, true, false, map, take, set, replicate, refl, sym, ap, ap₂, length-set, take_all, length-take-le, ◌∙◌, subst, inl, inr, ⊎_elim, arith, eq-eqb, eqb-true, Contains, Option, Some, None, slice_get, get_or}
 use Rattle.std.specs.List.{All}
 use Rattle.std.specs.Int.{bit_at}
 use Rattle.std.proofs.lemmas.Bool.{cases_eq, cases_lt}
@@ -9,7 +8,7 @@ use Rattle.std.proofs.lemmas.List.Elements.{All-contains, Contains-append_left, 
 use Rattle.std.proofs.lemmas.Nat.Bits.{bit_at-zero}
 use Rattle.std.proofs.lemmas.Option.{slice_get_within, get_or_from_slice_get, slice_get-get_or}
 use Rattle.ns_base.specs.declared.rows.MethodNo.{MethodNo}
-use Rattle.app_model.specs.CallGraph.{FitsCode, GraphParts, IsGraph, TargetParts, callees_at, callees_of, set_of, targets_at, targets_of, use_at}
+use Rattle.app_model.specs.CallGraph.{FitsCode, GraphParts, callees_at, callees_of, set_of, targets_at, use_at}
 use Rattle.app_model.specs.Parts.{AppParts}
 use Rattle.app_model.specs.Reach.{IsReached, given, called}
 use Rattle.call_targets.specs.declared.links.Link.{Link}

@@ -1,5 +1,5 @@
 -- Links between methods and the sets of what calls can call. A node is a method, or past all methods a set.
-use Rattle.std.specs.Prelude.{ℕ, ◌≡◌, ◌<◌, ◌+◌, ◌⊎◌, List, Contains, Some, length, slice_get}
+use Rattle.std.specs.Prelude.{ℕ, ◌≡◌, ◌<◌, ◌+◌, ◌⊎◌, List, Contains, Some, slice_get}
 use Rattle.ns_base.specs.declared.rows.MethodNo.{MethodNo}
 use Rattle.app_model.specs.CallGraph.{GraphParts, callees_of, use_at}
 use Rattle.call_targets.specs.declared.links.Link.{Link}

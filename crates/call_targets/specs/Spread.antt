@@ -1,7 +1,7 @@
 -- Words of bits at nodes, which links take on.
 use Rattle.std.specs.Prelude.{ℕ, ◌≡◌, ◌<◌, ◌-◌, ◌^◌, ◌↔◌, Bool, true, false, List, Contains, length, slice_index, slice_index_or}
 use Rattle.std.specs.Int.{bit_at}
-use Rattle.std.specs.List.{All, sum_by}
+use Rattle.std.specs.List.{sum_by}
 use Rattle.call_targets.specs.declared.links.Link.{Link}
 
 abbrev pub Has : List ℕ → (node bit : ℕ) → Type 0

@@ -1,4 +1,4 @@
-use Rattle.std.proofs.Common.{◌≡◌, ℕ, List, arith, length, replicate, take, take_at, ◌∙◌, ap₂}
+use Rattle.std.proofs.Common.{ℕ, List, arith, length, replicate, take, take_at, ◌∙◌, ap₂}
 use Rattle.call_targets.specs.Starts.{AreStores}
 use Rattle.call_targets.proofs.Assigned.{assigned_end}
 use Rattle.call_targets.proofs.assigning.find_assigned.Goals as goal

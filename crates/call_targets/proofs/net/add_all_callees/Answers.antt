@@ -1,4 +1,4 @@
-use Rattle.std.proofs.Common.{length, rules, arith}
+use Rattle.std.proofs.Common.{arith}
 use Rattle.call_targets.specs.Net.{HasIn}
 use Rattle.call_targets.proofs.Adding.{adds_more, haves_whole}
 use Rattle.call_targets.proofs.net.add_all_callees.Goals as goal

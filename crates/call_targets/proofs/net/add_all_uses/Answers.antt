@@ -1,4 +1,4 @@
-use Rattle.std.proofs.Common.{length, rules, arith}
+use Rattle.std.proofs.Common.{length, arith}
 use Rattle.call_targets.specs.Net.{UsesIn}
 use Rattle.call_targets.proofs.Adding.{adds_more, all_uses_whole}
 use Rattle.call_targets.proofs.net.add_all_uses.Goals as goal

@@ -1,4 +1,4 @@
-use Rattle.std.proofs.Common.{◌≡◌, ℕ, List, Bool, Vec, Global, arith, length, map, replicate, subst, take, take_at, ◌∙◌, ap₂}
+use Rattle.std.proofs.Common.{◌≡◌, ℕ, List, Bool, Vec, Global, arith, map, replicate, take, take_at, ◌∙◌, ap₂}
 use Rattle.call_targets.specs.Starts.{AreGiven, AreReached, has_first_bit}
 use Rattle.call_targets.proofs.Reached.{ok_then, reached_end}
 use Rattle.call_targets.proofs.reaching.find_reached.Goals as goal

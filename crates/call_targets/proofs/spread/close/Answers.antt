@@ -1,5 +1,5 @@
 use Rattle.std.proofs.Common.{true≢false}
-use Rattle.call_targets.proofs.Turns.{is_spread, keeps_more, keeps_none, turn_falls}
+use Rattle.call_targets.proofs.Turns.{is_spread, keeps_more, keeps_none}
 use Rattle.call_targets.proofs.spread.close.Goals as goal
 
 pub loop-changed-init : goal.loop-changed-init

@@ -1,5 +1,4 @@
 use Rattle.std.proofs.Common.{arith}
-use Rattle.std.proofs.lemmas.Option.{slice_get_within}
 use Rattle.call_targets.proofs.Turns.{contains_at, turn_more, turn_none, turn_whole, within_still}
 use Rattle.call_targets.proofs.spread.sweep.Goals as goal
 
