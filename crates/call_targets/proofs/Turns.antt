@@ -1,12 +1,16 @@
 -- Parts of the work, one after another.
-use Rattle.std.proofs.Common.{◌≡◌, ℕ, ◌+◌, ◌*◌, ◌≤◌, ◌<◌, ◌||◌, Bool, true, false, cond, List, refl, sym, ap, ◌∙◌, subst, ⊎_elim, arith, Contains, length, get_or, slice_get, Some}
+use Rattle.std.proofs.Common.{◌≡◌, ℕ, ◌+◌, ◌*◌, ◌≤◌, ◌<◌, ◌||◌, ◌++◌, ◌∷◌, [], Bool, true, false, cond, List, refl, sym, ap, ◌∙◌, subst, ⊎_elim, arith, Contains, length, get_or, slice_get, Some}
 use Rattle.std.proofs.lemmas.Bool.{or_parts, or_cases, cases_Bool, cases_lt, false≢true}
+use Rattle.std.proofs.lemmas.List.Elements.{Contains-push_cases}
 use Rattle.std.proofs.lemmas.Option.{get_or_from_slice_get, slice_get_within}
 use Rattle.call_targets.specs.declared.links.Link.{Link}
 use Rattle.call_targets.specs.Spread.{AreWithin, Has, IsWithin, Spreads, begins, goes_on, Keeps, Turn, IsPassed, AllPassed, PassedBelow, IsSpread, room}
 
 pub contains_at : (links : List Link) (i : ℕ) (link : Link) → slice_get links i ≡ Some link → Contains links link
 contains_at links i link is = (i, slice_get_within links i link is, get_or_from_slice_get links i link link is)
+
+pub within_more : (nodes : ℕ) (links : List Link) (one : Link) → AreWithin nodes links → IsWithin nodes one → AreWithin nodes (links ++ one ∷ [])
+within_more nodes links one before this link among = ⊎_elim (λ old. before link old) (λ is. subst (IsWithin nodes) is this) (Contains-push_cases links one link among)
 
 -- the words stay as many
 pub within_still : (links : List Link) (a b : List ℕ) (i : ℕ) (link : Link) → AreWithin (length a) links → length b ≡ length a → slice_get links i ≡ Some link → IsWithin (length b) link
