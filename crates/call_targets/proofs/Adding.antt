@@ -102,9 +102,9 @@ module _ (app : AppParts) (graph : GraphParts) (fits : FitsCode app graph) where
     pub links_within : (links : List Link) → IsGraph graph → AreLinks graph way (length app.methods) links → AreWithin (length app.methods + length graph.sets) links
     links_within links sound are link among = ⊎_elim
         (λ (t : Uses graph way (length app.methods) link). (let m = user_within t.0 t.1.0 t.1.1.0 t.1.1.1 in let s = sound.uses t.0 t.1.0 t.1.1.0 t.1.1.1 in
-            between sound t.0 (length app.methods + t.1.1.0) (omega arith) (omega arith) link t.1.1.2))
+        between sound t.0 (length app.methods + t.1.1.0) (omega arith) (omega arith) link t.1.1.2))
         (λ (t : Haves graph way (length app.methods) link). (let n = callee_within t.0 t.1.0 t.1.1.0 t.1.1.1 in let s = callees_within graph t.0 t.1.0 t.1.1.0 t.1.1.1 in
-            between sound (length app.methods + t.0) t.1.1.0.0 (omega arith) (omega arith) link t.1.1.2))
+        between sound (length app.methods + t.0) t.1.1.0.0 (omega arith) (omega arith) link t.1.1.2))
         (are.only link among)
 
 pub has_whole : (graph : GraphParts) (way : Way) (methods s bound : ℕ) (a b : List Link) → length (callees_of graph s) ≤ bound → Adds (Before (HasAt graph way methods s) bound) a b → Adds (HasIn graph way methods s) a b

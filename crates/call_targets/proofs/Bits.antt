@@ -60,16 +60,16 @@ module _ (words : List ℕ) (link : Link) (within : IsWithin (length words) link
   new_bit : (links : List Link) → Contains links link → (n bit : ℕ) → Has (set words link.to joined) n bit → Spreads links (λ (m : ℕ). Has words m bit) n
   new_bit links among n bit h = ⊎_elim
       (λ here. (let there : Has (set words link.to joined) link.to bit = subst (λ (m : ℕ). Has (set words link.to joined) m bit) here h in
-          let one : bit_at joined bit ≡ 1 = subst (λ (w : ℕ). bit_at w bit ≡ 1) put_same there in
-          let reached : Spreads links (λ (m : ℕ). Has words m bit) link.to = ⊎_elim (λ old. begins old) (λ new. goes_on link among (begins new)) (or_bit to_word from_word bit one) in
-          subst (Spreads links (λ (m : ℕ). Has words m bit)) (sym here) reached))
+      let one : bit_at joined bit ≡ 1 = subst (λ (w : ℕ). bit_at w bit ≡ 1) put_same there in
+      let reached : Spreads links (λ (m : ℕ). Has words m bit) link.to = ⊎_elim (λ old. begins old) (λ new. goes_on link among (begins new)) (or_bit to_word from_word bit one) in
+      subst (Spreads links (λ (m : ℕ). Has words m bit)) (sym here) reached))
       (λ ne. begins (subst (λ (w : ℕ). bit_at w bit ≡ 1) (put_other n ne) h)) (cases_eq n link.to)
 
   old_bit : (n bit : ℕ) → Has words n bit → Has (set words link.to joined) n bit
   old_bit n bit h = ⊎_elim
       (λ here. (let there : Has words link.to bit = subst (λ (m : ℕ). Has words m bit) here h in
-          let one : bit_at joined bit ≡ 1 = or_left to_word from_word bit there in
-          subst (λ (m : ℕ). Has (set words link.to joined) m bit) (sym here) (subst (λ (w : ℕ). bit_at w bit ≡ 1) (sym put_same) one)))
+      let one : bit_at joined bit ≡ 1 = or_left to_word from_word bit there in
+      subst (λ (m : ℕ). Has (set words link.to joined) m bit) (sym here) (subst (λ (w : ℕ). bit_at w bit ≡ 1) (sym put_same) one)))
       (λ ne. subst (λ (w : ℕ). bit_at w bit ≡ 1) (sym (put_other n ne)) h) (cases_eq n link.to)
 
   put_falls : to_word < 2 ^ 64 → joined ≢ to_word → room (set words link.to joined) < room words

@@ -50,11 +50,11 @@ module _ (links : List Link) where
     falls = λ e. ⊎_elim (λ on. (let l = t.falls on in let m = room_le (IsPassed link) b c y u in omega arith)) (λ on. (let l = u.falls on in let m = room_le (PassedBelow links i) a b x t in omega arith)) (or_cases x y e);
     done = λ e. (let h = or_parts x y e in
         λ k other below read. ⊎_elim
-            (λ less. subst (λ (words : List ℕ). IsPassed other words) (sym (u.same h.1)) (t.done h.0 k other less read))
-            (λ le. (let here : k ≡ i = omega (arith, le, below) in
-                let same : other ≡ link = sym read ∙ ap (λ (n : ℕ). get_or links n other) here ∙ get_or_from_slice_get links i link other is in
-                subst (λ (l : Link). IsPassed l c) (sym same) (u.done h.1)))
-            (cases_lt k i));
+        (λ less. subst (λ (words : List ℕ). IsPassed other words) (sym (u.same h.1)) (t.done h.0 k other less read))
+        (λ le. (let here : k ≡ i = omega (arith, le, below) in
+        let same : other ≡ link = sym read ∙ ap (λ (n : ℕ). get_or links n other) here ∙ get_or_from_slice_get links i link other is in
+        subst (λ (l : Link). IsPassed l c) (sym same) (u.done h.1)))
+        (cases_lt k i));
   }
 
   pub turn_whole : (i : ℕ) (a b : List ℕ) (x : Bool) → length links ≤ i → Turn links (PassedBelow links i) a b x → Turn links (AllPassed links) a b x

@@ -14,7 +14,5 @@ mod spread;
 pub use assigning::assigns;
 pub use reaching::reach;
 
-
-
 #[cfg(test)]
 mod tests;

@@ -85,12 +85,7 @@ fn add_uses(
     Ok(())
 }
 
-fn add_all_uses(
-    app: &App,
-    graph: &CallGraph,
-    way: Way,
-    links: &mut Links,
-) -> Result<(), AllocError>
+fn add_all_uses(app: &App, graph: &CallGraph, way: Way, links: &mut Links) -> Result<(), AllocError>
     requires graph { IsGraph graph.now }
     requires fits { FitsCode app.now graph.now }
     requires nodes { length app.now.methods + length graph.now.sets < 2 ^ 32 }

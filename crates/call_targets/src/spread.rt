@@ -64,12 +64,7 @@ fn pass_on(
 }
 
 // All links from a node.
-fn leave(
-    links: &Links,
-    words: &mut [u64],
-    agenda: &mut Agenda,
-    node: u32,
-) -> Result<(), AllocError>
+fn leave(links: &Links, words: &mut [u64], agenda: &mut Agenda, node: u32) -> Result<(), AllocError>
     requires { AreWithin (length words.old) links.now }
     ensures { Keeps links.now words.old words.new }
 {

@@ -9,9 +9,9 @@ pub loop-place-preserved : goal.loop-place-preserved
 loop-place-preserved c =
     let n : MethodNo = get_or c.set_callees-callees.result.now c.loop-place.place (record { 0 = 0 }) in
     adds_more (HasAt c.args.graph.now c.args.way c.args.methods c.args.set) c.loop-place.place c.args.links.now c.loop-place.links c.add.new.links c.loop-place.invariant
-        (has_adds c.args.graph.now c.args.way c.args.methods c.args.set c.loop-place.place n c.loop-place.links c.add.new.links
-        (subst (λ (callees : List MethodNo). slice_get callees c.loop-place.place ≡ Some n) c.set_callees-callees.ensures (slice_get-get_or c.set_callees-callees.result.now c.loop-place.place (record { 0 = 0 }) c.loop-place-test.true))
-        c.in_ok-add.ensures)
+    (has_adds c.args.graph.now c.args.way c.args.methods c.args.set c.loop-place.place n c.loop-place.links c.add.new.links
+    (subst (λ (callees : List MethodNo). slice_get callees c.loop-place.place ≡ Some n) c.set_callees-callees.ensures (slice_get-get_or c.set_callees-callees.result.now c.loop-place.place (record { 0 = 0 }) c.loop-place-test.true))
+    c.in_ok-add.ensures)
 
 pub returns : goal.returns
 returns c =

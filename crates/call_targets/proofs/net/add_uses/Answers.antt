@@ -6,7 +6,7 @@ use Rattle.call_targets.proofs.net.add_uses.Goals as goal
 pub loop-index-preserved : goal.loop-index-preserved
 loop-index-preserved c =
     adds_more (UsesAt c.args.graph.now c.args.way (length c.args.app.now.methods) c.args.method) c.loop-index.index c.args.links.now c.loop-index.links c.add_use.new.links c.loop-index.invariant
-        (subst (λ (n : ℕ). Adds (UsesAt c.args.graph.now c.args.way n c.args.method c.loop-index.index) c.loop-index.links c.add_use.new.links) c.method_count-methods.ensures c.in_ok-add_use.ensures)
+    (subst (λ (n : ℕ). Adds (UsesAt c.args.graph.now c.args.way n c.args.method c.loop-index.index) c.loop-index.links c.add_use.new.links) c.method_count-methods.ensures c.in_ok-add_use.ensures)
 
 pub returns : goal.returns
 returns c =
