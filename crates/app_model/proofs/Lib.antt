@@ -4,5 +4,6 @@ pub mod Descriptors
 pub mod Examples
 pub mod HierarchyLaws
 pub mod Invokes
+pub mod ReachLaws
 pub mod Searches
 pub mod TypeIndex

@@ -32,6 +32,13 @@ set_of graph (Some (Some s)) = targets_of (slice_get graph.sets s)
 unfoldable pub use_at : GraphParts → (m i : ℕ) → Option (Option ℕ)
 use_at graph m i = slice_get (slice_index_or graph.uses m []) i
 
+abbrev pub set_number : Option (Option ℕ) → Option ℕ
+set_number None = None
+set_number (Some set) = set
+
+abbrev pub callees_of : GraphParts → (s : ℕ) → List MethodNo
+callees_of graph s = (targets_of (slice_get graph.sets s)).callees
+
 -- what instruction i of method m can call: nothing where it is no call, and out of range
 unfoldable pub targets_at : GraphParts → (m i : ℕ) → TargetParts
 targets_at graph m i = set_of graph (use_at graph m i)

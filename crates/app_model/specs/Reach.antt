@@ -15,14 +15,14 @@ pub data IsReached (graph : GraphParts) (from : List MethodNo) : ℕ → Type 0 
   called : {m : ℕ} (i : ℕ) (n : MethodNo) → IsReached graph from m → Contains (callees_at graph m i) n → IsReached graph from n.0
 
 -- a set of methods that has the given ones, and with each method its callees
-pub record IsClosedUnderCalls (graph : GraphParts) (from : List MethodNo) (set : ℕ → Type 0) : Type 1 where
+pub record IsClosedUnderCalls (graph : GraphParts) (from : List MethodNo) (set : ℕ → Type 0) : Type 0 where
   pub given : (m : MethodNo) → Contains from m → set m.0
   pub callees : (m i : ℕ) (n : MethodNo) → set m → Contains (callees_at graph m i) n → set n.0
 
--- reach is the least such set
-pub record IsLeastReach (graph : GraphParts) (from : List MethodNo) : Type 1 where
+-- reach is such a set, and the least one: it lies in each other that a test tells
+pub record IsLeastReach (graph : GraphParts) (from : List MethodNo) : Type 0 where
   pub closed : IsClosedUnderCalls graph from (IsReached graph from)
-  pub least : (set : ℕ → Type 0) → IsClosedUnderCalls graph from set → (m : ℕ) → IsReached graph from m → set m
+  pub least : (test : ℕ → Bool) → IsClosedUnderCalls graph from (λ (m : ℕ). test m ≡ true) → (m : ℕ) → IsReached graph from m → test m ≡ true
 
 -- ---- stores to lock fields
 abbrev pub is_object_store : Option Ins → Bool

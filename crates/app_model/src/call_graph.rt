@@ -1,6 +1,6 @@
 //! What each call can call.
-ghost use Rattle.std.specs.Prelude.{◌≡◌, map, option_map};
-ghost use Rattle.app_model.specs.CallGraph.{AreRising, IsGraph, targets_at, callees_at, outside_at, targets_of};
+ghost use Rattle.std.specs.Prelude.{◌≡◌, ◌<◌, ◌^◌, length, map, option_map};
+ghost use Rattle.app_model.specs.CallGraph.{AreRising, IsGraph, targets_at, callees_at, callees_of, outside_at, set_number, targets_of, use_at};
 
 use ns_base::MethodNo;
 use std::marker::Model;
@@ -48,6 +48,13 @@ impl CallGraph {
         CallGraph { sets, uses }
     }
 
+    /// What holds of each call graph.
+    pub fn told(&self)
+        ensures { IsGraph self.now }
+    {
+        let _ = &self.sets;
+    }
+
     /// The methods that an instruction can call, rising; none where it is no call.
     pub fn callees(&self, method: MethodNo, index: u32) -> &[MethodNo]
         ensures callees { result.now ≡ callees_at self.now method.0 index }
@@ -67,6 +74,33 @@ impl CallGraph {
         match self.targets(method, index) {
             Some(row) => row.outside,
             None => false,
+        }
+    }
+
+    /// How many sets of targets there are. Calls that can call the same may share one.
+    pub fn set_count(&self) -> usize
+        ensures count { result ≡ length self.now.sets }
+        ensures fits { result < 2 ^ 63 }
+    {
+        self.sets.len()
+    }
+
+    /// The number of the set that an instruction uses; none where it is no call.
+    #[tactic(auto, unfolding(crate::specs::CallGraph::use_at))]
+    pub fn set_used(&self, method: MethodNo, index: u32) -> Option<u32>
+        ensures { result ≡ set_number (use_at self.now method.0 index) }
+    {
+        let uses = self.uses.get(method.0 as usize)?;
+        *uses.get(index as usize)?
+    }
+
+    /// The methods of a set, rising; none where there is no such set.
+    pub fn set_callees(&self, set: usize) -> &[MethodNo]
+        ensures { result.now ≡ callees_of self.now set }
+    {
+        match self.sets.get(set) {
+            Some(row) => &row.callees,
+            None => &[],
         }
     }
 

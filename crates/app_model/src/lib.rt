@@ -5,7 +5,7 @@
 //! - `lock_use` and `slots` tell calls and fields of wake locks apart from others.
 //! - `component` has the components and their lifecycles.
 //! - `hierarchy` has the classes of types, and those above them.
-//! - `laws` has what holds of every application.
+//! - `laws` has what holds of every application and call graph.
 //! - `tag` is what is known of a register's value; `tag_table` has it before each instruction.
 //! - `calls` says how a call finds its method; `call_graph` has what each call can call.
 //! - `subject` joins them: the rules read it.
@@ -29,7 +29,7 @@ pub use app::App;
 pub use call_graph::{CallGraph, TargetRow};
 pub use calls::{By, call_by};
 pub use component::{ComponentRow, ComponentTable, Edge, Kind};
-pub use laws::hierarchy_law;
+pub use laws::{hierarchy_law, reach_law};
 pub use lock_use::LockUse;
 pub use names::{POWER_MANAGER, STRING, WAKE_LOCK};
 pub use rows::{AppRows, ClassRow, FieldRow, MethodRow, Named, NamedField, Operand, ProtoRow};

@@ -1,0 +1,5 @@
+pub mod Adding
+pub mod Assigned
+pub mod Bits
+pub mod Reached
+pub mod Turns

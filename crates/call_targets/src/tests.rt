@@ -1,0 +1,2 @@
+//! Bits along links that are made by hand.
+mod reach;
