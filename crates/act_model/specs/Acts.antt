@@ -2,7 +2,7 @@
 use Rattle.std.specs.Prelude.{ℕ, zero, suc, ℤ, pos, negsuc, Bool, true, false, ◌||◌, ◌==◌, if◌then◌else◌, List, Option, Some, None, bytes_eq, codes}
 use Rattle.dalvik.specs.declared.ins.Ins.{Ins}
 use Rattle.dalvik.specs.declared.ins.Ins.TheVariants as ins
-use Rattle.dalvik.specs.declared.opcode.TheConstants.{MOVE_RESULT_WIDE, RETURN_WIDE, MONITOR_ENTER, IF_EQZ, IF_NEZ, AGET_WIDE, AGET_OBJECT, IGET_WIDE, IGET_OBJECT, SGET_WIDE, SGET_OBJECT, INVOKE_SUPER, INVOKE_SUPER_RANGE, INVOKE_DIRECT, INVOKE_DIRECT_RANGE, INVOKE_STATIC, INVOKE_STATIC_RANGE, DIV_INT, REM_INT, DIV_LONG, REM_LONG, DIV_INT_2ADDR, REM_INT_2ADDR, DIV_LONG_2ADDR, REM_LONG_2ADDR, DIV_INT_LIT16, REM_INT_LIT16, DIV_INT_LIT8, REM_INT_LIT8}
+use Rattle.dalvik.specs.declared.opcode.TheConstants.{MOVE_RESULT_WIDE, RETURN_WIDE, MONITOR_ENTER, IF_EQZ, IF_NEZ, AGET_WIDE, AGET_OBJECT, IGET_WIDE, IGET_OBJECT, SGET_WIDE, SGET_OBJECT, DIV_INT, REM_INT, DIV_LONG, REM_LONG, DIV_INT_2ADDR, REM_INT_2ADDR, DIV_LONG_2ADDR, REM_LONG_2ADDR, DIV_INT_LIT16, REM_INT_LIT16, DIV_INT_LIT8, REM_INT_LIT8}
 use Rattle.dalvik.specs.Descriptors.{is_reference}
 use Rattle.dalvik.specs.Registers.{is_wide_move, is_wide_const, is_wide_unary, is_wide_binary}
 use Rattle.app_model.specs.declared.rows.Named.{Named}
@@ -16,8 +16,6 @@ use Rattle.app_model.specs.LockUse.{lock_use_at}
 use Rattle.app_model.specs.Slots.{slot_at}
 use Rattle.act_model.specs.declared.act.Act.{Act}
 use Rattle.act_model.specs.declared.act.Act.TheVariants.{Go, Test, Copy, TakeResult, Write, Fill, ReadSlot, WriteSlot, Give, Check, Throw, Return, Call}
-use Rattle.app_model.specs.declared.calls.By.{By}
-use Rattle.app_model.specs.declared.calls.By.TheVariants.{Virtual, Super, Direct, Static}
 use Rattle.act_model.specs.declared.act.Gives.{Gives}
 use Rattle.act_model.specs.declared.act.Gives.TheVariants.{Nothing, Number, Object}
 use Rattle.act_model.specs.declared.act.LockOp.{LockOp}

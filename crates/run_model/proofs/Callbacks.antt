@@ -18,7 +18,7 @@ use Rattle.run_model.specs.Heaps.{Value, Heap, status, with_cleared, cleared_cel
 use Rattle.run_model.specs.Machine.{Callback, Running, edge_starts, starts, begins, entered_frame, entries_of, this_of}
 use Rattle.run_model.specs.Relation.{AreTagged, AreViews, Each, IsCallback, IsEnded, IsHeap, IsIdle, IsInside}
 use Rattle.run_model.specs.Soundness.{ExitsWell}
-use Rattle.run_model.specs.Tagged.{IsEntered, IsTagged}
+use Rattle.run_model.specs.Tagged.{IsTagged}
 use Rattle.flow_model.proofs.TestLaws.{none_some}
 use Rattle.run_model.proofs.Members.{each_append, each_if, each_map}
 use Rattle.run_model.proofs.Rows.{reset_ok}
@@ -65,7 +65,6 @@ module _ (x : SubjectParts) (own : ℕ) (set : Set) (tg : IsTagged x) (cl : IsCl
       → IsInside x own set (Running (record { states = states; component = c; edge = e }) (with_cleared h (clears x c edge)) (entered_frame m values ∷ []))
   begin_one c e edge m there from method values tagged =
       let lt = component_there x.list c e edge there in
-      let is_method : IsEntered x m = record { component = c; callback = edge.callback; is = method } in
       let view = idle.views.each c lt in
       let entry = cl.by _ _ (inr (V3 e there from method)) (view, tt) in
       let now = entered_status x own c edge (slot_count x) h idle.heap in
@@ -80,9 +79,9 @@ module _ (x : SubjectParts) (own : ℕ) (set : Set) (tg : IsTagged x) (cl : IsCl
           e = entered x own c edge (status h own);
           lo = length h.locks;
           from = omega arith;
-          entered = is_method;
+          reached = tg.callbacks c edge.callback m method;
           at = subst (λ s. set (At m (entered x own c edge (status h own)) 0 s) ≡ true) (sym now) entry;
-          registers = tagged_under _ values (length h.locks) (length h.locks) (with_cleared h (clears x c edge)) tagged (row_at x m 0) (tg.entries m is_method);
+          registers = tagged_under _ values (length h.locks) (length h.locks) (with_cleared h (clears x c edge)) tagged (row_at x m 0) (tg.entries c edge.callback m method);
           below = (refl, refl);
         };
       }

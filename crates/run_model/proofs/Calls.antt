@@ -1,6 +1,6 @@
 -- Calls keep the relation.
 use Rattle.std.proofs.Common.{◌≡◌, ℕ, suc, Bool, true, false, if◌then◌else◌, List, [], ◌∷◌, ◌++◌, length, map, Option, Some, None, slice_get, refl, sym, ap, ◌∙◌, arith, subst, length-append}
-use Rattle.std.specs.Prelude.{◌==◌, ◌&&◌, nat_le, is_some}
+use Rattle.std.specs.Prelude.{◌==◌, ◌&&◌, nat_le, is_some, Contains}
 use Rattle.std.proofs.lemmas.Bool.{and_parts, and_from, or_parts, or_right, false≢true}
 use Rattle.dalvik.specs.declared.ins.Args.{Args}
 use Rattle.app_model.specs.declared.tag.Tag.{Tag}
@@ -27,9 +27,14 @@ use Rattle.app_model.specs.Sites.{site_at}
 use Rattle.app_model.specs.Masks.{in_mask, any_below}
 use Rattle.flow_model.specs.Passes.{has_receiver, is_instance, is_lock_call, passes_null, passes_outside, receiver_nullness, throws, throws_outside}
 use Rattle.flow_model.specs.Scope.{call_escapes, escapes_as_receiver, is_escape, may_be_lock, passes_lock}
-use Rattle.app_model.specs.Subject.{SubjectParts, slot_count}
+use Rattle.app_model.specs.Subject.{SubjectParts, callees_at, slot_count}
+use Rattle.app_model.specs.CallGraph.{targets_at}
+use Rattle.app_model.specs.Targets.{method_no}
+use Rattle.ns_base.specs.declared.rows.MethodNo.{MethodNo}
+use Rattle.run_model.proofs.Targets.{invoked, target_fits}
 use Rattle.run_model.specs.Heaps.{Value, Zero, Nonzero, Object, LockRef, Heap, Lock, cell, is_owned, lock_at, new_lock, status, with_new}
-use Rattle.run_model.specs.Machine.{Frame, Here, Over, Stuck, Escape, register, is_lock_in, gives_lock, receiver_in, lacks_argument, answers, answers_of, here_of, throws_from, lock_call_options, full_lock_call_options, operation_options, answer_options, object_options, outside_answers, outside_options, receiver_options, call_by_op, call_options, may_receive}
+use Rattle.run_model.specs.Machine.{Frame, Here, Over, Stuck, Escape, register, is_lock_in, gives_lock, receiver_in, lacks_argument, answers, answers_of, here_of, throws_from, Target, Enters, GoesOutside, IsStuck, lock_call_options, full_lock_call_options, operation_options, answer_options, invoke_options, outside_answers, plain_call_options, receiver_options, call_by_op, call_options, target_of, target_options}
+use Rattle.run_model.specs.Soundness.{FitsTarget}
 use Rattle.run_model.specs.Relation.{AreTagged, Each, IsHeap, IsInside, IsNew, Means}
 use Rattle.flow_model.proofs.TestLaws.{some_below, below_some}
 use Rattle.run_model.proofs.Members.{each_append, each_if, each_map}
@@ -105,15 +110,6 @@ module _ (x : SubjectParts) (own : ℕ) (set_of : Set) (p : Premises x own set_o
     full_object : (there : Bool) (q : Tag) (lo hi : ℕ) (type : Option ℕ) → Means q (Object type) lo hi h → IsFull (receiver_nullness there own q)
     full_object true q lo hi type m = record { passes = passes_full own lo hi h q (Object type) refl m; throws = outside_throws_full own lo hi h q (Object type) refl m }
     full_object false q lo hi type m = full_none
-
-    full_static : (usage : LockUse) (q : Tag) → is_lock_call usage ≡ false → IsFull (receiver_nullness (has_receiver usage Static) own q)
-    full_static Plain q off = full_none
-    full_static Make q off = full_none
-    full_static Wrong q off = full_none
-    full_static Acquire q off = cc
-    full_static Release q off = cc
-    full_static IsHeld q off = cc
-    full_static Mode q off = cc
 
   -- what a call that goes outside answers, where no null is called
   module _ (h : Heap) (ok : IsHeap (slot_count x) h) (f : Frame) (rest : List Frame) (by : By) (arguments : Args) (given : Gives) (t : Top x own set_of p h f rest) (out : out_of x own set_of p f ≡ true) where
@@ -191,7 +187,7 @@ module _ (x : SubjectParts) (own : ℕ) (set_of : Set) (p : Premises x own set_o
     row = row_of x own set_of p f
 
     no_escape : call_escapes (is_lock_call usage) row arguments ≡ false
-    no_escape = subst (λ (o : Option Act). is_escape o row ≡ false) is (p.tagged.no_escape f.method f.index t.entered)
+    no_escape = subst (λ (o : Option Act). is_escape o row ≡ false) is (p.tagged.no_escape f.method f.index t.reached)
 
     given_lock : (from : ℕ) → gives_lock f arguments from ≡ true → passes_lock row arguments from ≡ true
     given_lock from g = given_by_tag row f t.lo (length h.locks) h t.registers arguments from g
@@ -199,19 +195,15 @@ module _ (x : SubjectParts) (own : ℕ) (set_of : Set) (p : Premises x own set_o
     receiver_means : (v : Value) → receiver_in f arguments ≡ Some v → Means (receiver_tag x own set_of p f arguments) v t.lo (length h.locks) h
     receiver_means v e = tagged_read row f.registers t.lo (length h.locks) h t.registers (receiver_of arguments) v (not_empty (args_len arguments == 0) (register f (receiver_of arguments)) v e)
 
-    -- the call leads outside, as every call does
-    out : out_of x own set_of p f ≡ true
-    out = p.tagged.outside f.method f.index by usage arguments given t.entered is
-
     -- a call on null
     null_ok : has_receiver usage by ≡ true → receiver_in f arguments ≡ Some Zero → (usage ≡ Mode → (v : Value) × (register f (argument_of arguments) ≡ Some v)) → Each (IsInside x own set_of) (throws_from (here h f rest))
     null_ok there e has =
         let q = receiver_tag x own set_of p f arguments in
         let a = argument_tag x own set_of p f arguments in
-        let mask = zero_throws own t.lo (length h.locks) h usage q a (receiver_means Zero e)
+        let mask = zero_throws own t.lo (length h.locks) h (out_of x own set_of p f) usage q a (receiver_means Zero e)
         (λ mode. (let a = has mode in (a.0, tagged_read row f.registers t.lo (length h.locks) h t.registers (argument_of arguments) a.0 a.1))) in
         throws_ok x own set_of p h ok f rest (Call by usage arguments given) t is
-        (rw (there, out) mask)
+        (rw there mask)
         (thrown_ok x own set_of p h f rest by usage arguments given t)
 
     -- ---- lock calls
@@ -238,30 +230,36 @@ module _ (x : SubjectParts) (own : ℕ) (set_of : Set) (p : Premises x own set_o
     no_lock_argument : is_lock_call usage ≡ false → Mode ≡ usage → ⊥
     no_lock_argument off e = absurd (false≢true (sym off ∙ ap is_lock_call (sym e)))
 
-    answers_ok_if : IsFull h (receiver_nullness (has_receiver usage by) own (receiver_tag x own set_of p f arguments)) → is_lock_call usage ≡ false → Each (IsInside x own set_of) (outside_answers (here h f rest) usage given)
-    answers_ok_if full off = outside_answers_ok h ok f rest by arguments given t out usage off full is
+    -- no call enters a method of the application
+    none_entered : (n : ℕ) → Contains (callees_at x f.method f.index) (method_no n) → ⊥
+    none_entered n c = omega (arith, (subst (λ (callees : List MethodNo). Contains callees (method_no n)) (p.tagged.alone f.method f.index t.reached) c).1)
 
-    object_ok : (form : By) (type : Option ℕ) → Each (IsInside x own set_of) (outside_answers (here h f rest) usage given) → Each (IsInside x own set_of) (object_options (here h f rest) form type (outside_answers (here h f rest) usage given))
-    object_ok Virtual type normal =
-        each_if (IsInside x own set_of) (may_receive x.app type (named_at x.app f.method f.index)) (outside_answers (here h f rest) usage given) (Over Stuck ∷ []) (λ _. normal) (λ _. (tt, tt))
-    object_ok Super type normal = normal
-    object_ok Direct type normal = normal
-    object_ok Static type normal = normal
+    fits : (type : Option ℕ) → FitsTarget (targets_at x.graph f.method f.index) (target_of x.app f.method by usage (named_at x.app f.method f.index) type)
+    fits type = target_fits x f.method f.index by usage arguments given (p.tagged.graph f.method f.index t.reached (ap is_some (invoked x.app f.method f.index by usage arguments given is).is)) is type
 
-    receiver_ok : is_lock_call usage ≡ false → has_receiver usage by ≡ true → (o : Option Value) → receiver_in f arguments ≡ o → Each (IsInside x own set_of) (receiver_options (here h f rest) by o (outside_answers (here h f rest) usage given))
+    target_ok : IsFull h (receiver_nullness (has_receiver usage by) own (receiver_tag x own set_of p f arguments)) → is_lock_call usage ≡ false → (to : Target) → FitsTarget (targets_at x.graph f.method f.index) to
+        → Each (IsInside x own set_of) (target_options (here h f rest) usage arguments given to)
+    target_ok full off (Enters n) c = absurd (none_entered n c)
+    target_ok full off GoesOutside out = outside_answers_ok h ok f rest by arguments given t out usage off full is
+    target_ok full off IsStuck c = (tt, tt)
+
+    static_ok : is_instance by ≡ false → is_lock_call usage ≡ false → Each (IsInside x own set_of) (invoke_options (here h f rest) by usage arguments given None)
+    static_ok form off = target_ok (rw (off, form) (full_none h)) off _ (fits None)
+
+    receiver_ok : is_lock_call usage ≡ false → has_receiver usage by ≡ true → (o : Option Value) → receiver_in f arguments ≡ o → Each (IsInside x own set_of) (receiver_options (here h f rest) by usage arguments given o)
     receiver_ok off there None e = (tt, tt)
     receiver_ok off there (Some Zero) e = null_ok there e (λ mode. absurd (no_lock_argument off (sym mode)))
     receiver_ok off there (Some Nonzero) e = (tt, tt)
     receiver_ok off there (Some (LockRef i)) e = (tt, tt)
     receiver_ok off there (Some (Object type)) e =
-        object_ok by type (answers_ok_if (full_object h (has_receiver usage by) _ t.lo (length h.locks) type (receiver_means (Object type) e)) off)
+        target_ok (full_object h (has_receiver usage by) _ t.lo (length h.locks) type (receiver_means (Object type) e)) off _ (fits type)
 
-  outside_ok : (h : Heap) (ok : IsHeap (slot_count x) h) (f : Frame) (rest : List Frame) (by : By) (usage : LockUse) (arguments : Args) (given : Gives) (t : Top x own set_of p h f rest) → act_at x.app f.method f.index ≡ Some (Call by usage arguments given)
-      → is_lock_call usage ≡ false → Each (IsInside x own set_of) (outside_options (here h f rest) by usage given (receiver_in f arguments))
-  outside_ok h ok f rest Static usage arguments given t is off = answers_ok_if h ok f rest Static usage arguments given t is (full_static h usage _ off) off
-  outside_ok h ok f rest Virtual usage arguments given t is off = receiver_ok h ok f rest Virtual usage arguments given t is off (instance_receiver usage Virtual refl) (receiver_in f arguments) refl
-  outside_ok h ok f rest Super usage arguments given t is off = receiver_ok h ok f rest Super usage arguments given t is off (instance_receiver usage Super refl) (receiver_in f arguments) refl
-  outside_ok h ok f rest Direct usage arguments given t is off = receiver_ok h ok f rest Direct usage arguments given t is off (instance_receiver usage Direct refl) (receiver_in f arguments) refl
+  plain_call_ok : (h : Heap) (ok : IsHeap (slot_count x) h) (f : Frame) (rest : List Frame) (by : By) (usage : LockUse) (arguments : Args) (given : Gives) (t : Top x own set_of p h f rest) → act_at x.app f.method f.index ≡ Some (Call by usage arguments given)
+      → is_lock_call usage ≡ false → Each (IsInside x own set_of) (plain_call_options (here h f rest) by usage arguments given)
+  plain_call_ok h ok f rest Static usage arguments given t is off = static_ok h ok f rest Static usage arguments given t is refl off
+  plain_call_ok h ok f rest Virtual usage arguments given t is off = receiver_ok h ok f rest Virtual usage arguments given t is off (instance_receiver usage Virtual refl) (receiver_in f arguments) refl
+  plain_call_ok h ok f rest Super usage arguments given t is off = receiver_ok h ok f rest Super usage arguments given t is off (instance_receiver usage Super refl) (receiver_in f arguments) refl
+  plain_call_ok h ok f rest Direct usage arguments given t is off = receiver_ok h ok f rest Direct usage arguments given t is off (instance_receiver usage Direct refl) (receiver_in f arguments) refl
 
   module _ (h : Heap) (ok : IsHeap (slot_count x) h) (f : Frame) (rest : List Frame) (by : By) (usage : LockUse) (arguments : Args) (given : Gives) (t : Top x own set_of p h f rest) (is : act_at x.app f.method f.index ≡ Some (Call by usage arguments given)) where
     by_op_ok : (o : Option LockOp) → op_of usage ≡ o → Each (IsInside x own set_of) (call_by_op (here h f rest) by usage arguments given o)
@@ -273,9 +271,9 @@ module _ (x : SubjectParts) (own : ℕ) (set_of : Set) (p : Premises x own set_o
         (λ full. lock_call_ok h ok f rest by usage arguments given t is op does full (receiver_in f arguments) refl))
     by_op_ok None does =
         let off : is_lock_call usage ≡ false = ap is_some does in
-        each_if (IsInside x own set_of) (gives_lock f arguments 0) (Over Escape ∷ []) (outside_options (here h f rest) by usage given (receiver_in f arguments))
+        each_if (IsInside x own set_of) (gives_lock f arguments 0) (Over Escape ∷ []) (plain_call_options (here h f rest) by usage arguments given)
         (λ g. absurd (false≢true (sym (escapes_outside (is_lock_call usage) (row_of x own set_of p f) arguments off (no_escape h ok f rest by usage arguments given t is)) ∙ given_lock h ok f rest by usage arguments given t is 0 g)))
-        (λ _. outside_ok h ok f rest by usage arguments given t is off)
+        (λ _. plain_call_ok h ok f rest by usage arguments given t is off)
 
     pub call_ok : Each (IsInside x own set_of) (call_options (here h f rest) by usage arguments given)
     call_ok = by_op_ok (op_of usage) refl

@@ -43,7 +43,7 @@ use Rattle.run_model.proofs.Entries.{written_ok}
 use Rattle.run_model.proofs.Masks.{fails_zero, in_if, passes_full, test_ok}
 use Rattle.run_model.proofs.Slots.{stored_below}
 use Rattle.run_model.proofs.Calls.{call_ok, given_by_tag}
-use Rattle.run_model.proofs.Steps.{Premises, Top, goes_ok, only_status, out_of, quiet_ok, row_of, start_status, throws_ok}
+use Rattle.run_model.proofs.Steps.{Premises, Top, goes_ok, none_waits, only_status, out_of, quiet_ok, row_of, start_status, throws_ok}
 
 if_stored : (b : Bool) → not b ≡ false → b ≡ true
 if_stored true e = refl
@@ -204,7 +204,7 @@ module _ (x : SubjectParts) (own : ℕ) (set_of : Set) (p : Premises x own set_o
     give_ok from when is = by_throws (Give from when) is t.registers when _ refl (λ mask. given mask (register f from) refl)
       where
         off : may_be_lock (tag_in row from) ≡ false
-        off = subst (λ (o : Option Act). is_escape o row ≡ false) is (p.tagged.no_escape f.method f.index t.entered)
+        off = subst (λ (o : Option Act). is_escape o row ≡ false) is (p.tagged.no_escape f.method f.index t.reached)
 
         given : in_mask (passes_by own when row now) now ≡ true → (o : Option Value) → register f from ≡ o → Each (IsInside x own set_of) (give_options here o)
         given mask None there = (tt, tt)
@@ -216,7 +216,7 @@ module _ (x : SubjectParts) (own : ℕ) (set_of : Set) (p : Premises x own set_o
     throw_ok object is None there = (tt, tt)
     throw_ok object is (Some v) there =
         each_if (IsInside x own set_of) (is_lock v) (Over Escape ∷ []) (throws_from here)
-        (λ lock. absurd (no_lock_at object v there (subst (λ (o : Option Act). is_escape o row ≡ false) is (p.tagged.no_escape f.method f.index t.entered)) lock))
+        (λ lock. absurd (no_lock_at object v there (subst (λ (o : Option Act). is_escape o row ≡ false) is (p.tagged.no_escape f.method f.index t.reached)) lock))
         (λ _. throws_ok x own set_of p h ok f rest (Throw object) t is (only_status h own) t.registers)
 
     -- ---- stores
@@ -226,7 +226,7 @@ module _ (x : SubjectParts) (own : ℕ) (set_of : Set) (p : Premises x own set_o
       in_range = stored_below x f.method f.index from l when is
 
       may_store : may_be_stored (tag_in row from) ≡ true
-      may_store = if_stored (may_be_stored (tag_in row from)) (subst (λ (o : Option Act). is_escape o row ≡ false) is (p.tagged.no_escape f.method f.index t.entered))
+      may_store = if_stored (may_be_stored (tag_in row from)) (subst (λ (o : Option Act). is_escape o row ≡ false) is (p.tagged.no_escape f.method f.index t.reached))
 
       -- it passes, so the mask is that of the store
       store_mask : (image : ℕ) (s : ℕ) → in_mask image s ≡ true → in_mask (if_passes (passes_by own when row now) image) s ≡ true
@@ -325,7 +325,7 @@ module _ (x : SubjectParts) (own : ℕ) (set_of : Set) (p : Premises x own set_o
     write_slot from l when is = by_throws (WriteSlot from l when) is t.registers when _ refl (λ mask. store_value from l when is mask (register f from) refl)
 
     -- ---- returns
-    returns_ok : (answer : Returned) → act_at x.app f.method f.index ≡ Some (Return answer) → (v : Value) (frames : List Frame) → Below x set_of p.root (start_status x own set_of p) h frames f.method t.e t.lo → IsInside x own set_of (resumes x p.at h frames v)
+    returns_ok : (answer : Returned) → act_at x.app f.method f.index ≡ Some (Return answer) → (v : Value) (frames : List Frame) → Below x own set_of p.root (start_status x own set_of p) h frames f.method t.e t.lo → IsInside x own set_of (resumes x p.at h frames v)
     returns_ok answer is v [] b =
         let ret : set_of (Ret f.method t.e (status h own)) ≡ true = p.closed.by _ _ (inl (I1_return (ap is_return is))) (t.at, tt) in
         rw p.callback.there (record {
@@ -341,7 +341,7 @@ module _ (x : SubjectParts) (own : ℕ) (set_of : Set) (p : Premises x own set_o
           carried = by_method p.root p.method;
           has = (subst₂ (λ m e. set_of (Ret m e (status h own)) ≡ true) b.0 b.1 ret, tt);
         })
-    returns_ok answer is v (g ∷ frames) b = absurd (b.2.call)
+    returns_ok answer is v (g ∷ frames) b = absurd (none_waits x own set_of h g f.method t.e t.lo b.0 b.1 p.tagged b.2)
 
     return_ok : (answer : Returned) → act_at x.app f.method f.index ≡ Some (Return answer) → Each (IsInside x own set_of) (return_options here answer)
     return_ok returned.Nothing is = (returns_ok returned.Nothing is Zero rest t.below, tt)
@@ -356,7 +356,7 @@ module _ (x : SubjectParts) (own : ℕ) (set_of : Set) (p : Premises x own set_o
     fill_ok : (arguments : Args) (kind : TypeNo) → act_at x.app f.method f.index ≡ Some (Fill arguments kind) → Each (IsInside x own set_of) (fill_options here arguments kind)
     fill_ok arguments kind is =
         each_if (IsInside x own set_of) (gives_lock f arguments 0) (Over Escape ∷ []) (answers here (Object (Some kind.0)) ∷ [])
-        (λ g. absurd (false≢true (sym (subst (λ (o : Option Act). is_escape o row ≡ false) is (p.tagged.no_escape f.method f.index t.entered)) ∙ given_by_tag row f t.lo (length h.locks) h t.registers arguments 0 g)))
+        (λ g. absurd (false≢true (sym (subst (λ (o : Option Act). is_escape o row ≡ false) is (p.tagged.no_escape f.method f.index t.reached)) ∙ given_by_tag row f t.lo (length h.locks) h t.registers arguments 0 g)))
         (λ _.
         (let same : result_index f ≡ result_cell row = ap pred t.registers.count in (
           subst (λ r. IsInside x own set_of (writes here r (Object (Some kind.0)))) (sym same)

@@ -6,6 +6,7 @@ pub mod Registers
 pub mod Entries
 pub mod Callbacks
 pub mod Slots
+pub mod Targets
 pub mod Steps
 pub mod Masks
 pub mod LockCalls

@@ -22,11 +22,14 @@ use Rattle.flow_model.specs.Status.{only}
 use Rattle.flow_model.specs.Passes.{passes, throws, throws_by}
 use Rattle.flow_model.specs.Rules.{Inner, I1, I2, I3, entered}
 use Rattle.app_model.specs.Subject.{SubjectParts, outside_at, row_at, slot_count}
+use Rattle.app_model.specs.Targets.{method_no}
+use Rattle.ns_base.specs.declared.rows.MethodNo.{MethodNo}
+use Rattle.std.specs.Prelude.{Contains}
 use Rattle.app_model.proofs.Cells.{length-row_at}
 use Rattle.flow_model.specs.Subject.{status_masks, own_operation, mask_passes, mask_throws}
 use Rattle.run_model.specs.Heaps.{Value, Zero, Heap, status, is_lost, counter_at, cell}
 use Rattle.run_model.specs.Machine.{Callback, Frame, handlers_of, here_of, goes_to, goes_on, moves, throws_from, unwinds}
-use Rattle.run_model.specs.Relation.{AreTagged, Below, Each, IsCallback, IsHeap, IsInside, IsTop, Means}
+use Rattle.run_model.specs.Relation.{AreTagged, Below, Each, IsCallback, IsHeap, IsInside, IsTop, IsWaiting, Means}
 use Rattle.run_model.specs.Tagged.{IsTagged}
 use Rattle.flow_model.specs.TagFlow.{IsLive, can_throw, leads_on, may_throw}
 use Rattle.run_model.proofs.Members.{each_append, each_if, each_map_at}
@@ -45,10 +48,13 @@ pub record Premises (x : SubjectParts) (own : ℕ) (set : Set) : Type 0 where
   pub callback : IsCallback x set at edge s0
   pub method : callback_at x.list at.component edge.callback ≡ Some root
 
--- no frame waits yet
-pub below_kept : (x : SubjectParts) (set : Set) (root s0 : ℕ) (h h' : Heap) (frames : List Frame) (n es hi : ℕ) → Below x set root s0 h frames n es hi → Below x set root s0 h' frames n es hi
-below_kept x set root s0 h h' [] n es hi b = b
-below_kept x set root s0 h h' (f ∷ rest) n es hi b = absurd (b.2.call)
+-- no frame waits yet: no call enters a method
+pub none_waits : (x : SubjectParts) (own : ℕ) (set : Set) (h : Heap) (f : Frame) (n es hi e lo : ℕ) → IsTagged x → IsWaiting x own set h f n es hi e lo → ⊥
+none_waits x own set h f n es hi e lo tg w = omega (arith, (subst (λ (callees : List MethodNo). Contains callees (method_no n)) (tg.alone f.method f.index w.reached) w.callee).1)
+
+pub below_kept : (x : SubjectParts) (own : ℕ) (set : Set) (root s0 : ℕ) (h h' : Heap) → IsTagged x → (frames : List Frame) (n es hi : ℕ) → Below x own set root s0 h frames n es hi → Below x own set root s0 h' frames n es hi
+below_kept x own set root s0 h h' tg [] n es hi b = b
+below_kept x own set root s0 h h' tg (f ∷ rest) n es hi b = absurd (none_waits x own set h f n es hi b.0 b.1 tg b.2)
 
 handler_numbered : (p : Option Place) (k i : ℕ) → slice_get (handlers_of p) k ≡ Some i → handler_of p k ≡ Some i
 handler_numbered None k i e = e
@@ -131,10 +137,10 @@ module _ (x : SubjectParts) (own : ℕ) (set : Set) (p : Premises x own set) whe
           e = t.e;
           lo = t.lo;
           from = omega (arith, t.from);
-          entered = t.entered;
+          reached = t.reached;
           at = next_at f.method t.e f.index (status h own) j (status h' own) k a is eq mask t.at;
-          registers = tagged_under _ values t.lo (length h'.locks) h' tagged (row_at x f.method j) (p.tagged.flows f.method f.index k j a t.entered (live h f rest t) is (leads a (row_of f) (out_of f) k (status h own) (status h' own) mask) eq);
-          below = below_kept x set p.root start_status h h' rest f.method t.e t.lo t.below;
+          registers = tagged_under _ values t.lo (length h'.locks) h' tagged (row_at x f.method j) (p.tagged.flows f.method f.index k j a t.reached (live h f rest t) is (leads a (row_of f) (out_of f) k (status h own) (status h' own) mask) eq);
+          below = below_kept x own set p.root start_status h h' p.tagged rest f.method t.e t.lo t.below;
         };
       }
 
@@ -161,17 +167,17 @@ module _ (x : SubjectParts) (own : ℕ) (set : Set) (p : Premises x own set) whe
           e = t.e;
           lo = t.lo;
           from = t.from;
-          entered = t.entered;
+          reached = t.reached;
           at = p.closed.by _ _ (inl (I3 k eq by_act)) (t.at, tt);
-          registers = tagged_under _ f.registers t.lo (length h.locks) h tagged (row_at x f.method i) (p.tagged.throws f.method f.index k i a t.entered (live h f rest t) is (throwing a (row_of f) (out_of f) (status h own) (status h own) mask) eq);
+          registers = tagged_under _ f.registers t.lo (length h.locks) h tagged (row_at x f.method i) (p.tagged.throws f.method f.index k i a t.reached (live h f rest t) is (throwing a (row_of f) (out_of f) (status h own) (status h own) mask) eq);
           below = t.below;
         };
       }
 
   -- a throw in the frames below the one that runs: there is none yet
-  left_ok : (h : Heap) (rest : List Frame) (n es hi : ℕ) → Below x set p.root start_status h rest n es hi → Each (IsInside x own set) (unwinds x p.at h rest)
+  left_ok : (h : Heap) (rest : List Frame) (n es hi : ℕ) → Below x own set p.root start_status h rest n es hi → Each (IsInside x own set) (unwinds x p.at h rest)
   left_ok h [] n es hi b = (tt, tt)
-  left_ok h (g ∷ rest) n es hi b = absurd (b.2.call)
+  left_ok h (g ∷ rest) n es hi b = absurd (none_waits x own set h g n es hi b.0 b.1 p.tagged b.2)
 
   pub throws_ok : (h : Heap) (ok : IsHeap (slot_count x) h) (f : Frame) (rest : List Frame) (a : Act) (t : Top h f rest) → act_at x.app f.method f.index ≡ Some a
       → in_mask (throws own a (row_of f) (out_of f) (status h own)) (status h own) ≡ true → AreTagged (thrown a (row_of f)) f.registers t.lo (length h.locks) h → Each (IsInside x own set) (throws_from (here_of x p.at h f rest))

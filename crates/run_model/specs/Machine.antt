@@ -1,8 +1,5 @@
 -- The modelled Android as a machine: its states, what may come next, and runs. It reads no tags of the subject.
---
--- A call of a method that the application declares goes outside as every other call does: no instruction enters a
--- method of the application yet.
-use Rattle.std.specs.Prelude.{ℕ, zero, suc, pred, ◌+◌, ◌%◌, Bool, true, false, not, ◌&&◌, ◌||◌, ◌==◌, nat_le, if◌then◌else◌, List, [], ◌∷◌, ◌++◌, map, length, replicate, Option, Some, None, slice_get, slice_index, slice_index_or, slice_set, flat_map, position, bytes_eq, codes}
+use Rattle.std.specs.Prelude.{ℕ, zero, suc, pred, ◌+◌, ◌%◌, Bool, true, false, not, ◌&&◌, ◌==◌, nat_le, if◌then◌else◌, List, [], ◌∷◌, ◌++◌, map, length, replicate, Option, Some, None, slice_get, slice_index, slice_index_or, slice_set, flat_map, position, bytes_eq, codes}
 use Rattle.std.specs.List.{range_with_len}
 use Rattle.ns_base.specs.declared.rows.LockNo.{LockNo}
 use Rattle.ns_base.specs.declared.rows.TypeNo.{TypeNo}
@@ -10,6 +7,7 @@ use Rattle.dalvik.specs.declared.body.Place.{Place}
 use Rattle.dalvik.specs.declared.ins.Args.{Args}
 use Rattle.dalvik.specs.Calls.{args_len, arg_at, receiver_of, argument_of}
 use Rattle.dalvik.specs.Descriptors.{is_reference, words_of}
+use Rattle.dalvik.specs.Registers.{args_of}
 use Rattle.app_model.specs.declared.component.Edge.{Edge}
 use Rattle.app_model.specs.declared.rows.MethodRow.{MethodRow}
 use Rattle.app_model.specs.declared.rows.Named.{Named}
@@ -22,6 +20,7 @@ use Rattle.app_model.specs.Names.{type_text, string_name}
 use Rattle.app_model.specs.Parts.{AppParts, ClassParts, ProtoParts}
 use Rattle.app_model.specs.Sites.{site_at}
 use Rattle.app_model.specs.Subject.{SubjectParts, slot_count}
+use Rattle.app_model.specs.Targets.{found_on, is_on_array, is_plain}
 use Rattle.app_model.specs.Words.{place_at, successor_at, leaves_at, named_at}
 use Rattle.act_model.specs.declared.act.Act.{Act}
 use Rattle.act_model.specs.declared.act.Act.TheVariants.{Go, Test, Copy, TakeResult, Write, Fill, ReadSlot, WriteSlot, Give, Check, Throw, Return, Call}
@@ -307,36 +306,86 @@ answer_options here Make given =
     (LockRef (length here.heap.locks)) ∷ []
 answer_options here usage given = map (answers here) (answers_of here.subject.app given)
 
--- an object of that type may be the receiver of a call of the named method; an array's methods take every object
-abbrev pub may_receive : AppParts → Option ℕ → Option Named → Bool
-may_receive app t None = false
-may_receive app t (Some named) = slice_index (type_text app named.class.0) 0 == 91 || may_be_sub app t named.class.0
-
 abbrev pub outside_answers : Here → LockUse → Gives → List State
 outside_answers here usage given = answer_options here usage given ++ throws_from here
 
--- an object as the receiver: of a virtual call it is one of the named class
-abbrev pub object_options : Here → By → Option ℕ → List State → List State
-object_options here Virtual type normal =
-    if may_receive here.subject.app type (named_at here.subject.app here.frame.method here.frame.index)
-    then normal else Over Stuck ∷ []
-object_options here Super type normal = normal
-object_options here Direct type normal = normal
-object_options here Static type normal = normal
+-- ---- where a call leads: into a method of the application, or outside
+pub data Target : Type 0 where
+  Enters : (n : ℕ) → Target
+  GoesOutside : Target
+  IsStuck : Target
 
--- another call by its receiver, which is no lock; it may answer, or throw
-abbrev pub receiver_options : Here → By → Option Value → List State → List State
-receiver_options here by None normal = Over Stuck ∷ []
-receiver_options here by (Some Zero) normal = throws_from here
-receiver_options here by (Some Nonzero) normal = Over Stuck ∷ []
-receiver_options here by (Some (LockRef i)) normal = Over Stuck ∷ []
-receiver_options here by (Some (Object type)) normal = object_options here by type normal
+-- an object of that type may be the receiver; by its type the virtual and interface calls go alone
+abbrev pub may_receive : AppParts → By → Named → (type : Option ℕ) → Bool
+may_receive app Virtual named type = may_be_sub app type named.class.0
+may_receive app Super named type = true
+may_receive app Direct named type = true
+may_receive app Static named type = true
 
-abbrev pub outside_options : Here → By → LockUse → Gives → Option Value → List State
-outside_options here Static usage given receiver = outside_answers here usage given
-outside_options here Virtual usage given receiver = receiver_options here Virtual receiver (outside_answers here usage given)
-outside_options here Super usage given receiver = receiver_options here Super receiver (outside_answers here usage given)
-outside_options here Direct usage given receiver = receiver_options here Direct receiver (outside_answers here usage given)
+-- the method that a call in method m finds by the type of its receiver
+abbrev pub found_for : AppParts → (m : ℕ) → By → Named → (type : Option ℕ) → Option ℕ
+found_for app m Virtual named (Some t) = found_on app m Virtual named t
+found_for app m Virtual named None = None
+found_for app m Super named type = found_on app m Super named 0
+found_for app m Direct named type = found_on app m Direct named 0
+found_for app m Static named type = found_on app m Static named 0
+
+abbrev pub found_target : Option ℕ → Target
+found_target None = GoesOutside
+found_target (Some n) = Enters n
+
+-- a call on an array takes every object, and a lock instruction enters no method
+abbrev pub named_target : AppParts → (m : ℕ) → By → LockUse → Named → (type : Option ℕ) → Target
+named_target app m by usage named type =
+    if is_on_array app named then GoesOutside
+    else (if not (may_receive app by named type) then IsStuck
+    else (if is_plain usage then found_target (found_for app m by named type) else GoesOutside))
+
+abbrev pub target_of : AppParts → (m : ℕ) → By → LockUse → Option Named → (type : Option ℕ) → Target
+target_of app m by usage None type = IsStuck
+target_of app m by usage (Some named) type = named_target app m by usage named type
+
+-- the words of a call, as they stand in the caller's registers
+abbrev pub call_values : Frame → Args → List Value
+call_values f arguments = map (λ r. slice_index_or f.registers r Zero) (args_of arguments)
+
+-- the registers with which a method begins
+abbrev pub entry_values : Option MethodRow → (words : List Value) → List Value
+entry_values None words = []
+entry_values (Some method) words = entry_row Zero method.registers method.ins words
+
+abbrev pub entered_frame : ℕ → List Value → Frame
+entered_frame m registers = record { method = m; index = 0; registers = registers }
+
+-- the frame of method n comes before that of the call, which waits
+abbrev pub enters : Here → Args → ℕ → State
+enters here arguments n =
+    Running here.callback here.heap (entered_frame n (entry_values (slice_get here.subject.app.methods n) (call_values here.frame arguments)) ∷ here.frame ∷ here.rest)
+
+abbrev pub target_options : Here → LockUse → Args → Gives → Target → List State
+target_options here usage arguments given (Enters n) = enters here arguments n ∷ []
+target_options here usage arguments given GoesOutside = outside_answers here usage given
+target_options here usage arguments given IsStuck = Over Stuck ∷ []
+
+-- on an object of a type; a static call is on none
+abbrev pub invoke_options : Here → By → LockUse → Args → Gives → (type : Option ℕ) → List State
+invoke_options here by usage arguments given type =
+    target_options here usage arguments given
+    (target_of here.subject.app here.frame.method by usage (named_at here.subject.app here.frame.method here.frame.index) type)
+
+-- by the receiver, which is no lock
+abbrev pub receiver_options : Here → By → LockUse → Args → Gives → Option Value → List State
+receiver_options here by usage arguments given None = Over Stuck ∷ []
+receiver_options here by usage arguments given (Some Zero) = throws_from here
+receiver_options here by usage arguments given (Some Nonzero) = Over Stuck ∷ []
+receiver_options here by usage arguments given (Some (LockRef i)) = Over Stuck ∷ []
+receiver_options here by usage arguments given (Some (Object type)) = invoke_options here by usage arguments given type
+
+abbrev pub plain_call_options : Here → By → LockUse → Args → Gives → List State
+plain_call_options here Static usage arguments given = invoke_options here Static usage arguments given None
+plain_call_options here Virtual usage arguments given = receiver_options here Virtual usage arguments given (receiver_in here.frame arguments)
+plain_call_options here Super usage arguments given = receiver_options here Super usage arguments given (receiver_in here.frame arguments)
+plain_call_options here Direct usage arguments given = receiver_options here Direct usage arguments given (receiver_in here.frame arguments)
 
 -- setReferenceCounted without an argument
 abbrev pub lacks_argument : LockOp → Option Value → Bool
@@ -358,7 +407,7 @@ call_by_op here by usage arguments given (Some op) =
     then Over Escape ∷ [] else full_lock_call_options here op arguments
 call_by_op here by usage arguments given None =
     if gives_lock here.frame arguments 0
-    then Over Escape ∷ [] else outside_options here by usage given (receiver_in here.frame arguments)
+    then Over Escape ∷ [] else plain_call_options here by usage arguments given
 
 abbrev pub call_options : Here → By → LockUse → Args → Gives → List State
 call_options here by usage arguments given = call_by_op here by usage arguments given (op_of usage)
@@ -417,10 +466,7 @@ this_of app (Some component) = Object (class_type (slice_get app.classes compone
 abbrev pub entries_of : AppParts → Value → Option MethodRow → List (List Value)
 entries_of app this None = [] ∷ []
 entries_of app this (Some method) =
-    map (λ words. entry_row Zero method.registers method.ins (this ∷ words)) (chosen (parameter_words app (slice_get app.protos method.proto.0)))
-
-abbrev pub entered_frame : ℕ → List Value → Frame
-entered_frame m registers = record { method = m; index = 0; registers = registers }
+    map (λ words. entry_values (Some method) (this ∷ words)) (chosen (parameter_words app (slice_get app.protos method.proto.0)))
 
 -- edge e of component c: an edge without a method is at its end at once
 abbrev pub begins : SubjectParts → List ℕ → Heap → ℕ → ℕ → Edge → Option ℕ → List State

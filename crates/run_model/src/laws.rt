@@ -1,15 +1,24 @@
 //! What the flow rules say of the runs of the machine.
-ghost use Rattle.std.specs.Prelude.{◌≡◌, ◌<◌, ◌↔◌, ℕ, List, true};
+ghost use Rattle.std.specs.Prelude.{◌≡◌, ◌<◌, ◌↔◌, ℕ, List, Option, Some, true};
 ghost use Rattle.flow_model.specs.Derived.{Set, IsClosed};
 ghost use Rattle.app_model.specs.Masks.{is_held};
 ghost use Rattle.flow_model.specs.Policy.{MeetsPolicy};
 ghost use Rattle.flow_model.specs.Rules.{Inner, Rules};
 ghost use Rattle.flow_model.specs.Subject.{status_masks};
 ghost use Rattle.app_model.specs.Subject.{SubjectParts, slot_count};
+ghost use Rattle.act_model.specs.Acts.{act_at};
+ghost use Rattle.act_model.specs.declared.act.Act.TheVariants.{Call};
+ghost use Rattle.act_model.specs.declared.act.Gives.{Gives};
+ghost use Rattle.app_model.specs.CallGraph.{targets_at};
+ghost use Rattle.app_model.specs.Targets.{IsCallGraph};
+ghost use Rattle.app_model.specs.Words.{named_at};
+ghost use Rattle.app_model.specs.declared.calls.By.{By};
+ghost use Rattle.app_model.specs.declared.lock_use.LockUse.{LockUse};
+ghost use Rattle.dalvik.specs.declared.ins.Args.{Args};
 ghost use Rattle.run_model.specs.Heaps.{Heap, status};
-ghost use Rattle.run_model.specs.Machine.{Callback, Frame, Idle, Running, options_of, run_of};
+ghost use Rattle.run_model.specs.Machine.{Callback, Frame, Idle, Running, options_of, run_of, target_of};
 ghost use Rattle.run_model.specs.Relation.{Each, IsHeap, IsIdle, IsInside, IsSound};
-ghost use Rattle.run_model.specs.Soundness.{HoldsLock, LeavesNoneHeld, StandsWell};
+ghost use Rattle.run_model.specs.Soundness.{FitsTarget, HoldsLock, LeavesNoneHeld, StandsWell};
 ghost use Rattle.run_model.specs.Tagged.{IsTagged};
 ghost use Rattle.run_model.specs.Worked.{ClearsOwned, CopyDown, CopyUp, DivisionByTwo, DivisionThrows, KeepsStatic, LeavesFree, LeavesHeld, LockEscapes, LosesLock, MakingThrows, MonitorOnNull, MonitorOnObject, NonzeroBranches, OutsideEnds, ReceiverFirst, ReleaseThrows, ServiceFirst, StoreToNull, StoreToObject, SwitchGoes, WideRead, ZeroBranches};
 
@@ -25,6 +34,12 @@ pub fn soundness()
 pub fn soundness_inside()
     ensures starts { (x : SubjectParts) (l : ℕ) (set : Set) → IsTagged x → IsClosed (Inner x l (status_masks x l)) set → (states : List ℕ) (h : Heap) → IsIdle x l set states h → Each (IsInside x l set) (options_of x (Idle states h)) }
     ensures steps { (x : SubjectParts) (l : ℕ) (set : Set) → IsTagged x → IsClosed (Inner x l (status_masks x l)) set → (at : Callback) (h : Heap) (frames : List Frame) → IsInside x l set (Running at h frames) → Each (IsInside x l set) (options_of x (Running at h frames)) }
+{}
+
+/// Where a call of the machine leads is among its targets in a call graph of the application: into a callee, or outside
+/// where the graph says so.
+pub fn call_targets()
+    ensures fits { (x : SubjectParts) (m i : ℕ) (by : By) (usage : LockUse) (arguments : Args) (given : Gives) (type : Option ℕ) → IsCallGraph x.app x.graph → act_at x.app m i ≡ Some (Call by usage arguments given) → FitsTarget (targets_at x.graph m i) (target_of x.app m by usage (named_at x.app m i) type) }
 {}
 
 /// A status is held exactly where the field owns a lock with a count above zero.
