@@ -35,9 +35,10 @@ use Rattle.run_model.proofs.Targets.{invoked, target_fits}
 use Rattle.run_model.specs.Heaps.{Value, Zero, Nonzero, Object, LockRef, Heap, Lock, cell, is_owned, lock_at, new_lock, status, with_new}
 use Rattle.run_model.specs.Machine.{Frame, Here, Over, Stuck, Escape, register, is_lock_in, gives_lock, receiver_in, lacks_argument, answers, answers_of, here_of, throws_from, Target, Enters, GoesOutside, IsStuck, lock_call_options, full_lock_call_options, operation_options, answer_options, invoke_options, outside_answers, plain_call_options, receiver_options, call_by_op, call_options, target_of, target_options}
 use Rattle.run_model.specs.Soundness.{FitsTarget}
+use Rattle.run_model.specs.Choices.{Choices, Empty, Single, Then, ForEach, by_each, counted, listed}
 use Rattle.run_model.specs.Relation.{AreTagged, Each, IsHeap, IsInside, IsNew, Means}
 use Rattle.flow_model.proofs.TestLaws.{some_below, below_some}
-use Rattle.run_model.proofs.Members.{each_append, each_if, each_map}
+use Rattle.run_model.proofs.Members.{EachWay, each_append, each_by, each_map, each_or, each_then, way_if}
 use Rattle.run_model.proofs.Heaps.{cell_same, grown_at, grown_last, grown_status, grown_heap, owned_there}
 use Rattle.run_model.proofs.Meanings.{KeepsBut, nowhere, cell_of_lock, field_receiver, held_same, may_be, means_kept}
 use Rattle.run_model.proofs.Registers.{tagged_map, tagged_read}
@@ -119,13 +120,13 @@ module _ (x : SubjectParts) (own : ℕ) (set_of : Set) (p : Premises x own set_o
     by_outside : (P : Bool → Type 0) → P true → P (out_of x own set_of p f)
     by_outside P ok = subst P (sym out) ok
 
-    plain_ok : IsFull h (nullness_of Plain) → act_at x.app f.method f.index ≡ Some (Call by Plain arguments given) → Each (IsInside x own set_of) (map (answers (here h f rest)) (answers_of x.app given))
+    plain_ok : IsFull h (nullness_of Plain) → act_at x.app f.method f.index ≡ Some (Call by Plain arguments given) → EachWay (IsInside x own set_of) (ForEach (answers_of x.app given) (answers (here h f rest)))
     plain_ok full is =
         let mask = by_outside (λ (b : Bool). in_mask (passes_outside b (nullness_of Plain) (status h own)) (status h own) ≡ true) full.passes in
         each_map (λ v. Means (given_tag given) v t.lo (length h.locks) h) (IsInside x own set_of) (answers (here h f rest))
         (λ v means. answer_ok x own set_of p h h f rest by Plain arguments given v t is ok (omega arith) mask (thrown_ok x own set_of p h f rest by Plain arguments given t) means) (answers_of x.app given) (answers_ok x.app given t.lo (length h.locks) h)
 
-    wrong_ok : IsFull h (nullness_of Wrong) → act_at x.app f.method f.index ≡ Some (Call by Wrong arguments given) → Each (IsInside x own set_of) (map (answers (here h f rest)) (answers_of x.app given))
+    wrong_ok : IsFull h (nullness_of Wrong) → act_at x.app f.method f.index ≡ Some (Call by Wrong arguments given) → EachWay (IsInside x own set_of) (ForEach (answers_of x.app given) (answers (here h f rest)))
     wrong_ok full is =
         each_map (λ v. Means (given_tag given) v t.lo (length h.locks) h) (IsInside x own set_of) (answers (here h f rest))
         (λ v means. answer_ok x own set_of p h h f rest by Wrong arguments given v t is ok (omega arith) full.passes (thrown_ok x own set_of p h f rest by Wrong arguments given t) means) (answers_of x.app given) (answers_ok x.app given t.lo (length h.locks) h)
@@ -151,14 +152,14 @@ module _ (x : SubjectParts) (own : ℕ) (set_of : Set) (p : Premises x own set_o
     made : IsNew site (LockRef (length h.locks)) t.lo (length grown.locks) grown
     made = record { i = length h.locks; is = refl; from = t.from; below = omega (arith, one_more); loose = ap (λ (y : Lock). y.owner) (grown_last h site); made = ap (λ (y : Lock). y.site) (grown_last h site) }
 
-    make_ok : IsFull h (nullness_of Make) → act_at x.app f.method f.index ≡ Some (Call by Make arguments given) → Each (IsInside x own set_of) (answer_options (here h f rest) Make given)
+    make_ok : IsFull h (nullness_of Make) → act_at x.app f.method f.index ≡ Some (Call by Make arguments given) → EachWay (IsInside x own set_of) (answer_options (here h f rest) Make given)
     make_ok full is =
         let same = grown_status h site (slot_count x) ok own in
         let mask = subst (λ s. in_mask (passes_null (nullness_of Make) (status h own)) s ≡ true) (sym same) full.passes in
         let tags = tagged_map (row_of x own set_of p f) f.registers t.lo (length h.locks) h t.registers (call_change Make (receiver_tag x own set_of p f arguments)) (length grown.locks) grown (means_kept t.lo (length h.locks) (length grown.locks) h grown make_keeps) in
         (answer_ok x own set_of p h grown f rest by Make arguments given (LockRef (length h.locks)) t is (grown_heap h site (slot_count x) ok) (omega (arith, one_more)) mask tags made, tt)
 
-    answer_options_ok : (usage : LockUse) → is_lock_call usage ≡ false → IsFull h (nullness_of usage) → act_at x.app f.method f.index ≡ Some (Call by usage arguments given) → Each (IsInside x own set_of) (answer_options (here h f rest) usage given)
+    answer_options_ok : (usage : LockUse) → is_lock_call usage ≡ false → IsFull h (nullness_of usage) → act_at x.app f.method f.index ≡ Some (Call by usage arguments given) → EachWay (IsInside x own set_of) (answer_options (here h f rest) usage given)
     answer_options_ok Plain off full is = plain_ok full is
     answer_options_ok Wrong off full is = wrong_ok full is
     answer_options_ok Make off full is = make_ok full is
@@ -177,9 +178,9 @@ module _ (x : SubjectParts) (own : ℕ) (set_of : Set) (p : Premises x own set_o
     full_throws IsHeld off full = cc
     full_throws Mode off full = cc
 
-    pub outside_answers_ok : (usage : LockUse) → is_lock_call usage ≡ false → IsFull h (nullness_of usage) → act_at x.app f.method f.index ≡ Some (Call by usage arguments given) → Each (IsInside x own set_of) (outside_answers (here h f rest) usage given)
+    pub outside_answers_ok : (usage : LockUse) → is_lock_call usage ≡ false → IsFull h (nullness_of usage) → act_at x.app f.method f.index ≡ Some (Call by usage arguments given) → EachWay (IsInside x own set_of) (outside_answers (here h f rest) usage given)
     outside_answers_ok usage off full is =
-        each_append (IsInside x own set_of) (answer_options (here h f rest) usage given) (throws_from (here h f rest)) (answer_options_ok usage off full is)
+        each_then (IsInside x own set_of) (answer_options (here h f rest) usage given) (throws_from (here h f rest)) (answer_options_ok usage off full is)
         (throws_ok x own set_of p h ok f rest (Call by usage arguments given) t is (full_throws usage off full) (thrown_ok x own set_of p h f rest by usage arguments given t))
 
   module _ (h : Heap) (ok : IsHeap (slot_count x) h) (f : Frame) (rest : List Frame) (by : By) (usage : LockUse) (arguments : Args) (given : Gives) (t : Top x own set_of p h f rest) (is : act_at x.app f.method f.index ≡ Some (Call by usage arguments given)) where
@@ -196,7 +197,7 @@ module _ (x : SubjectParts) (own : ℕ) (set_of : Set) (p : Premises x own set_o
     receiver_means v e = tagged_read row f.registers t.lo (length h.locks) h t.registers (receiver_of arguments) v (not_empty (args_len arguments == 0) (register f (receiver_of arguments)) v e)
 
     -- a call on null
-    null_ok : has_receiver usage by ≡ true → receiver_in f arguments ≡ Some Zero → (usage ≡ Mode → (v : Value) × (register f (argument_of arguments) ≡ Some v)) → Each (IsInside x own set_of) (throws_from (here h f rest))
+    null_ok : has_receiver usage by ≡ true → receiver_in f arguments ≡ Some Zero → (usage ≡ Mode → (v : Value) × (register f (argument_of arguments) ≡ Some v)) → EachWay (IsInside x own set_of) (throws_from (here h f rest))
     null_ok there e has =
         let q = receiver_tag x own set_of p f arguments in
         let a = argument_tag x own set_of p f arguments in
@@ -207,7 +208,7 @@ module _ (x : SubjectParts) (own : ℕ) (set_of : Set) (p : Premises x own set_o
         (thrown_ok x own set_of p h f rest by usage arguments given t)
 
     -- ---- lock calls
-    lock_ok : (op : LockOp) → op_of usage ≡ Some op → (i : ℕ) → receiver_in f arguments ≡ Some (LockRef i) → Each (IsInside x own set_of) (if is_owned (lock_at h i).owner then operation_options (here h f rest) op arguments i else Over Escape ∷ [])
+    lock_ok : (op : LockOp) → op_of usage ≡ Some op → (i : ℕ) → receiver_in f arguments ≡ Some (LockRef i) → EachWay (IsInside x own set_of) (if is_owned (lock_at h i).owner then operation_options (here h f rest) op arguments i else Single (Over Escape))
     lock_ok op does i e =
         let means = receiver_means (LockRef i) e in
         let field = field_receiver (receiver_tag x own set_of p f arguments) i t.lo (length h.locks) h means (escapes_by_receiver (is_lock_call usage) row arguments (ap is_some does) no_escape) in
@@ -215,11 +216,11 @@ module _ (x : SubjectParts) (own : ℕ) (set_of : Set) (p : Premises x own set_o
         let means_field : Means (tag.Field k) (LockRef i) t.lo (length h.locks) h = subst (λ (q : Tag). Means q (LockRef i) t.lo (length h.locks) h) field.1 means in
         let c : cell h k.0 ≡ Some i = cell_of_lock (cell h k.0) i means_field in
         let owned : is_owned (lock_at h i).owner ≡ true = ap is_owned (ok.cell k.0 i c) in
-        each_if (IsInside x own set_of) (is_owned (lock_at h i).owner) (operation_options (here h f rest) op arguments i) (Over Escape ∷ [])
+        way_if (IsInside x own set_of) (is_owned (lock_at h i).owner) (operation_options (here h f rest) op arguments i) (Single (Over Escape))
         (λ _. operation_ok x own set_of p h ok f rest by arguments given t k i field.1 c usage op does is)
         (λ loose. absurd (false≢true (sym loose ∙ owned)))
 
-    lock_call_ok : (op : LockOp) → op_of usage ≡ Some op → lacks_argument op (register f (argument_of arguments)) ≡ false → (o : Option Value) → receiver_in f arguments ≡ o → Each (IsInside x own set_of) (lock_call_options (here h f rest) op arguments o)
+    lock_call_ok : (op : LockOp) → op_of usage ≡ Some op → lacks_argument op (register f (argument_of arguments)) ≡ false → (o : Option Value) → receiver_in f arguments ≡ o → EachWay (IsInside x own set_of) (lock_call_options (here h f rest) op arguments o)
     lock_call_ok op does full None e = (tt, tt)
     lock_call_ok op does full (Some Zero) e = null_ok (lock_receiver usage by (ap is_some does)) e (mode_argument usage op (register f (argument_of arguments)) does full)
     lock_call_ok op does full (Some Nonzero) e = (tt, tt)
@@ -238,15 +239,15 @@ module _ (x : SubjectParts) (own : ℕ) (set_of : Set) (p : Premises x own set_o
     fits type = target_fits x f.method f.index by usage arguments given (p.tagged.graph f.method f.index t.reached (ap is_some (invoked x.app f.method f.index by usage arguments given is).is)) is type
 
     target_ok : IsFull h (receiver_nullness (has_receiver usage by) own (receiver_tag x own set_of p f arguments)) → is_lock_call usage ≡ false → (to : Target) → FitsTarget (targets_at x.graph f.method f.index) to
-        → Each (IsInside x own set_of) (target_options (here h f rest) usage arguments given to)
+        → EachWay (IsInside x own set_of) (target_options (here h f rest) usage arguments given to)
     target_ok full off (Enters n) c = absurd (none_entered n c)
     target_ok full off GoesOutside out = outside_answers_ok h ok f rest by arguments given t out usage off full is
     target_ok full off IsStuck c = (tt, tt)
 
-    static_ok : is_instance by ≡ false → is_lock_call usage ≡ false → Each (IsInside x own set_of) (invoke_options (here h f rest) by usage arguments given None)
+    static_ok : is_instance by ≡ false → is_lock_call usage ≡ false → EachWay (IsInside x own set_of) (invoke_options (here h f rest) by usage arguments given None)
     static_ok form off = target_ok (rw (off, form) (full_none h)) off _ (fits None)
 
-    receiver_ok : is_lock_call usage ≡ false → has_receiver usage by ≡ true → (o : Option Value) → receiver_in f arguments ≡ o → Each (IsInside x own set_of) (receiver_options (here h f rest) by usage arguments given o)
+    receiver_ok : is_lock_call usage ≡ false → has_receiver usage by ≡ true → (o : Option Value) → receiver_in f arguments ≡ o → EachWay (IsInside x own set_of) (receiver_options (here h f rest) by usage arguments given o)
     receiver_ok off there None e = (tt, tt)
     receiver_ok off there (Some Zero) e = null_ok there e (λ mode. absurd (no_lock_argument off (sym mode)))
     receiver_ok off there (Some Nonzero) e = (tt, tt)
@@ -255,25 +256,25 @@ module _ (x : SubjectParts) (own : ℕ) (set_of : Set) (p : Premises x own set_o
         target_ok (full_object h (has_receiver usage by) _ t.lo (length h.locks) type (receiver_means (Object type) e)) off _ (fits type)
 
   plain_call_ok : (h : Heap) (ok : IsHeap (slot_count x) h) (f : Frame) (rest : List Frame) (by : By) (usage : LockUse) (arguments : Args) (given : Gives) (t : Top x own set_of p h f rest) → act_at x.app f.method f.index ≡ Some (Call by usage arguments given)
-      → is_lock_call usage ≡ false → Each (IsInside x own set_of) (plain_call_options (here h f rest) by usage arguments given)
+      → is_lock_call usage ≡ false → EachWay (IsInside x own set_of) (plain_call_options (here h f rest) by usage arguments given)
   plain_call_ok h ok f rest Static usage arguments given t is off = static_ok h ok f rest Static usage arguments given t is refl off
   plain_call_ok h ok f rest Virtual usage arguments given t is off = receiver_ok h ok f rest Virtual usage arguments given t is off (instance_receiver usage Virtual refl) (receiver_in f arguments) refl
   plain_call_ok h ok f rest Super usage arguments given t is off = receiver_ok h ok f rest Super usage arguments given t is off (instance_receiver usage Super refl) (receiver_in f arguments) refl
   plain_call_ok h ok f rest Direct usage arguments given t is off = receiver_ok h ok f rest Direct usage arguments given t is off (instance_receiver usage Direct refl) (receiver_in f arguments) refl
 
   module _ (h : Heap) (ok : IsHeap (slot_count x) h) (f : Frame) (rest : List Frame) (by : By) (usage : LockUse) (arguments : Args) (given : Gives) (t : Top x own set_of p h f rest) (is : act_at x.app f.method f.index ≡ Some (Call by usage arguments given)) where
-    by_op_ok : (o : Option LockOp) → op_of usage ≡ o → Each (IsInside x own set_of) (call_by_op (here h f rest) by usage arguments given o)
+    by_op_ok : (o : Option LockOp) → op_of usage ≡ o → EachWay (IsInside x own set_of) (call_by_op (here h f rest) by usage arguments given o)
     by_op_ok (Some op) does =
-        each_if (IsInside x own set_of) (gives_lock f arguments 1) (Over Escape ∷ []) (full_lock_call_options (here h f rest) op arguments)
+        way_if (IsInside x own set_of) (gives_lock f arguments 1) (Single (Over Escape)) (full_lock_call_options (here h f rest) op arguments)
         (λ g. absurd (false≢true (sym (escapes_by_argument (is_lock_call usage) (row_of x own set_of p f) arguments (ap is_some does) (no_escape h ok f rest by usage arguments given t is)) ∙ given_lock h ok f rest by usage arguments given t is 1 g)))
-        (λ _. each_if (IsInside x own set_of) (lacks_argument op (register f (argument_of arguments))) (Over Stuck ∷ []) (lock_call_options (here h f rest) op arguments (receiver_in f arguments))
+        (λ _. way_if (IsInside x own set_of) (lacks_argument op (register f (argument_of arguments))) (Single (Over Stuck)) (lock_call_options (here h f rest) op arguments (receiver_in f arguments))
         (λ _. (tt, tt))
         (λ full. lock_call_ok h ok f rest by usage arguments given t is op does full (receiver_in f arguments) refl))
     by_op_ok None does =
         let off : is_lock_call usage ≡ false = ap is_some does in
-        each_if (IsInside x own set_of) (gives_lock f arguments 0) (Over Escape ∷ []) (plain_call_options (here h f rest) by usage arguments given)
+        way_if (IsInside x own set_of) (gives_lock f arguments 0) (Single (Over Escape)) (plain_call_options (here h f rest) by usage arguments given)
         (λ g. absurd (false≢true (sym (escapes_outside (is_lock_call usage) (row_of x own set_of p f) arguments off (no_escape h ok f rest by usage arguments given t is)) ∙ given_lock h ok f rest by usage arguments given t is 0 g)))
         (λ _. plain_call_ok h ok f rest by usage arguments given t is off)
 
-    pub call_ok : Each (IsInside x own set_of) (call_options (here h f rest) by usage arguments given)
+    pub call_ok : EachWay (IsInside x own set_of) (call_options (here h f rest) by usage arguments given)
     call_ok = by_op_ok (op_of usage) refl

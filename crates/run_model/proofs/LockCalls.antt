@@ -25,7 +25,9 @@ use Rattle.flow_model.specs.Status.{acquire_passes, release_passes, release_thro
 use Rattle.app_model.specs.Subject.{SubjectParts, slot_count}
 use Rattle.run_model.specs.Heaps.{Value, Zero, Heap, Lock, cell, held_value, is_lost, is_null, lock_at, status, status_of, with_count}
 use Rattle.run_model.specs.Machine.{Frame, Here, here_of, with_heap, register, result_index, answers, release_options, mode_options, operation_options}
+use Rattle.run_model.specs.Choices.{Choices, Empty, Single, Then, ForEach, by_each, counted, listed}
 use Rattle.run_model.specs.Relation.{AreTagged, Each, IsHeap, IsInside, Means, held_in}
+use Rattle.run_model.proofs.Members.{EachWay}
 use Rattle.run_model.proofs.Rows.{some, acquire_ok, release_ok, release_all_ok, release_zero, is_held_ok}
 use Rattle.run_model.proofs.Heaps.{cell_same, changed_status, changed_other, changed_ok, changed_loose, changed_apart, changed_count, status_at}
 use Rattle.run_model.proofs.Meanings.{KeepsBut, nowhere, only_at, held_same, means_counted, means_kept, means_thrown}
@@ -97,19 +99,19 @@ module _ (x : SubjectParts) (own : ℕ) (set_of : Set) (p : Premises x own set_o
     abbrev recounted : ℕ → Lock
     recounted n = record { owner = (lock_at h i).owner; count = n; counted = (lock_at h i).counted; site = (lock_at h i).site }
 
-    acquire_step : act_at x.app f.method f.index ≡ Some (Call by Acquire arguments given) → Each (IsInside x own set_of) (operation_options here ops.Acquire arguments i)
+    acquire_step : act_at x.app f.method f.index ≡ Some (Call by Acquire arguments given) → EachWay (IsInside x own set_of) (operation_options here ops.Acquire arguments i)
     acquire_step is =
         let n = (lock_at h i).count in
         let y = recounted (suc n) in
         (answer_ok h (with_lock y) f rest by Acquire arguments given Zero t is (changed_ok number h k.0 i y ok c refl) (longer y) (by_column y refl acquire_passes (acquire_ok (is_lost h k.0) n (lock_at h i).counted)) (counted_tags y refl) refl, tt)
 
     release_answers : act_at x.app f.method f.index ≡ Some (Call by Release arguments given) → (n : ℕ) → in_mask (release_passes (status_of (is_lost h k.0) (some (lock_at h i).count (lock_at h i).counted))) (status_of (is_lost h k.0) (some n (lock_at h i).counted)) ≡ true
-        → Each (IsInside x own set_of) (answers (with_heap here (with_count h i n)) Zero ∷ [])
+        → EachWay (IsInside x own set_of) (Single (answers (with_heap here (with_count h i n)) Zero))
     release_answers is n table =
         let y = recounted n in
         (answer_ok h (with_lock y) f rest by Release arguments given Zero t is (changed_ok number h k.0 i y ok c refl) (longer y) (by_column y refl release_passes table) (counted_tags y refl) refl, tt)
 
-    release_by : act_at x.app f.method f.index ≡ Some (Call by Release arguments given) → (b : Bool) (n : ℕ) → (lock_at h i).counted ≡ b → (lock_at h i).count ≡ n → Each (IsInside x own set_of) (release_options here i b n)
+    release_by : act_at x.app f.method f.index ≡ Some (Call by Release arguments given) → (b : Bool) (n : ℕ) → (lock_at h i).counted ≡ b → (lock_at h i).count ≡ n → EachWay (IsInside x own set_of) (release_options here i b n)
     release_by is true zero b z =
         throws_ok x own set_of p h ok f rest (Call by Release arguments given) t is
         (subst (λ (q : Tag). in_mask (lock_call_throws release_throws (nullness own q) (status h own)) (status h own) ≡ true) (sym e)
@@ -123,7 +125,7 @@ module _ (x : SubjectParts) (own : ℕ) (set_of : Set) (p : Premises x own set_o
     release_by is true (suc n) b z = release_answers is n (rw (b, z) (release_ok (is_lost h k.0) n))
     release_by is false n b z = release_answers is 0 (rw (b, z) (release_all_ok (is_lost h k.0) n))
 
-    is_held_step : act_at x.app f.method f.index ≡ Some (Call by IsHeld arguments given) → Each (IsInside x own set_of) (operation_options here ops.IsHeld arguments i)
+    is_held_step : act_at x.app f.method f.index ≡ Some (Call by IsHeld arguments given) → EachWay (IsInside x own set_of) (operation_options here ops.IsHeld arguments i)
     is_held_step is =
         let answer = held_value (lock_at h i).count in
         let table = is_held_ok (is_lost h k.0) (lock_at h i).count (lock_at h i).counted in
@@ -143,7 +145,7 @@ module _ (x : SubjectParts) (own : ℕ) (set_of : Set) (p : Premises x own set_o
       held = λ l off. held_same h (with_lock (remade b)) (cell h l) (λ j is. changed_count number h k.0 i (remade b) ok c refl refl j);
     }
 
-    mode_step : act_at x.app f.method f.index ≡ Some (Call by Mode arguments given) → (o : Option Value) → register f (argument_of arguments) ≡ o → Each (IsInside x own set_of) (mode_options here i o)
+    mode_step : act_at x.app f.method f.index ≡ Some (Call by Mode arguments given) → (o : Option Value) → register f (argument_of arguments) ≡ o → EachWay (IsInside x own set_of) (mode_options here i o)
     mode_step is None there = (tt, tt)
     mode_step is (Some v) there =
         let y = remade (not (is_null v)) in
@@ -153,7 +155,7 @@ module _ (x : SubjectParts) (own : ℕ) (set_of : Set) (p : Premises x own set_o
         (answer_ok h (with_lock y) f rest by Mode arguments given Zero t is (changed_ok number h k.0 i y ok c refl) (longer y) (by_column y refl (mode_passes (argument_tag f arguments)) table) tags refl, tt)
 
     -- ---- what a call does as a lock call
-    own_operation_ok : (usage : LockUse) → act_at x.app f.method f.index ≡ Some (Call by usage arguments given) → IfSome (op_of usage) (λ op. Each (IsInside x own set_of) (operation_options here op arguments i))
+    own_operation_ok : (usage : LockUse) → act_at x.app f.method f.index ≡ Some (Call by usage arguments given) → IfSome (op_of usage) (λ op. EachWay (IsInside x own set_of) (operation_options here op arguments i))
     own_operation_ok Acquire is = acquire_step is
     own_operation_ok Release is = release_by is (lock_at h i).counted (lock_at h i).count refl refl
     own_operation_ok IsHeld is = is_held_step is
@@ -162,5 +164,5 @@ module _ (x : SubjectParts) (own : ℕ) (set_of : Set) (p : Premises x own set_o
     own_operation_ok Make is = tt
     own_operation_ok Wrong is = tt
 
-    pub operation_ok : (usage : LockUse) (op : LockOp) → op_of usage ≡ Some op → act_at x.app f.method f.index ≡ Some (Call by usage arguments given) → Each (IsInside x own set_of) (operation_options here op arguments i)
-    operation_ok usage op e is = subst (λ (o : Option LockOp). IfSome o (λ q. Each (IsInside x own set_of) (operation_options here q arguments i))) e (own_operation_ok usage is)
+    pub operation_ok : (usage : LockUse) (op : LockOp) → op_of usage ≡ Some op → act_at x.app f.method f.index ≡ Some (Call by usage arguments given) → EachWay (IsInside x own set_of) (operation_options here op arguments i)
+    operation_ok usage op e is = subst (λ (o : Option LockOp). IfSome o (λ q. EachWay (IsInside x own set_of) (operation_options here q arguments i))) e (own_operation_ok usage is)

@@ -1,5 +1,5 @@
 -- What carries every instruction: on to a successor, and a throw.
-use Rattle.std.proofs.Common.{◌≡◌, ℕ, ◌<◌, ◌≤◌, Bool, true, List, [], ◌∷◌, map, length, Option, Some, None, refl, sym, inl, ⊎_elim, arith, subst, slice_get}
+use Rattle.std.proofs.Common.{if◌then◌else◌, ◌≡◌, ℕ, ◌<◌, ◌≤◌, Bool, true, List, [], ◌∷◌, map, length, Option, Some, None, refl, sym, inl, ⊎_elim, arith, subst, slice_get}
 use Rattle.std.proofs.lemmas.Bool.{cases_Bool}
 use Rattle.dalvik.specs.declared.body.Place.{Place}
 use Rattle.app_model.specs.declared.component.Edge.{Edge}
@@ -29,10 +29,11 @@ use Rattle.app_model.proofs.Cells.{length-row_at}
 use Rattle.flow_model.specs.Subject.{status_masks, own_operation, mask_passes, mask_throws}
 use Rattle.run_model.specs.Heaps.{Value, Zero, Heap, status, is_lost, counter_at, cell}
 use Rattle.run_model.specs.Machine.{Callback, Frame, handlers_of, here_of, goes_to, goes_on, moves, throws_from, unwinds}
+use Rattle.run_model.specs.Choices.{Choices, Empty, Single, Then, ForEach, by_each, counted, listed}
 use Rattle.run_model.specs.Relation.{AreTagged, Below, Each, IsCallback, IsHeap, IsInside, IsTop, IsWaiting, Means}
 use Rattle.run_model.specs.Tagged.{IsTagged}
 use Rattle.flow_model.specs.TagFlow.{IsLive, can_throw, leads_on, may_throw}
-use Rattle.run_model.proofs.Members.{each_append, each_if, each_map_at}
+use Rattle.run_model.proofs.Members.{EachWay, each_append, each_by, each_map, each_or, each_then, way_if}
 use Rattle.run_model.proofs.Rows.{only_ok}
 use Rattle.run_model.proofs.Heaps.{status_is}
 use Rattle.run_model.proofs.Registers.{tagged_under}
@@ -175,13 +176,14 @@ module _ (x : SubjectParts) (own : ℕ) (set : Set) (p : Premises x own set) whe
       }
 
   -- a throw in the frames below the one that runs: there is none yet
-  left_ok : (h : Heap) (rest : List Frame) (n es hi : ℕ) → Below x own set p.root start_status h rest n es hi → Each (IsInside x own set) (unwinds x p.at h rest)
+  left_ok : (h : Heap) (rest : List Frame) (n es hi : ℕ) → Below x own set p.root start_status h rest n es hi → EachWay (IsInside x own set) (unwinds x p.at h rest)
   left_ok h [] n es hi b = (tt, tt)
   left_ok h (g ∷ rest) n es hi b = absurd (none_waits x own set h g n es hi b.0 b.1 p.tagged b.2)
 
   pub throws_ok : (h : Heap) (ok : IsHeap (slot_count x) h) (f : Frame) (rest : List Frame) (a : Act) (t : Top h f rest) → act_at x.app f.method f.index ≡ Some a
-      → in_mask (throws own a (row_of f) (out_of f) (status h own)) (status h own) ≡ true → AreTagged (thrown a (row_of f)) f.registers t.lo (length h.locks) h → Each (IsInside x own set) (throws_from (here_of x p.at h f rest))
+      → in_mask (throws own a (row_of f) (out_of f) (status h own)) (status h own) ≡ true → AreTagged (thrown a (row_of f)) f.registers t.lo (length h.locks) h → EachWay (IsInside x own set) (throws_from (here_of x p.at h f rest))
   throws_ok h ok f rest a t is mask tagged =
-      each_append (IsInside x own set) (map (moves (here_of x p.at h f rest) f.registers) (handlers_of (place_at x.app f.method f.index))) _
-      (each_map_at (IsInside x own set) _ (handlers_of (place_at x.app f.method f.index)) (λ k i eq. handler_ok h ok f rest a t is mask tagged k i (handler_numbered (place_at x.app f.method f.index) k i eq)))
-      (each_if (IsInside x own set) (leaves_at x.app f.method f.index) (unwinds x p.at h rest) [] (λ _. left_ok h rest f.method t.e t.lo t.below) (λ _. tt))
+      each_then (IsInside x own set) (by_each (moves (here_of x p.at h f rest) f.registers) (handlers_of (place_at x.app f.method f.index)))
+      (if leaves_at x.app f.method f.index then unwinds x p.at h rest else Empty)
+      (each_by (IsInside x own set) _ (handlers_of (place_at x.app f.method f.index)) (λ k i eq. handler_ok h ok f rest a t is mask tagged k i (handler_numbered (place_at x.app f.method f.index) k i eq)))
+      (way_if (IsInside x own set) (leaves_at x.app f.method f.index) (unwinds x p.at h rest) Empty (λ _. left_ok h rest f.method t.e t.lo t.below) (λ _. tt))

@@ -1,5 +1,6 @@
 pub mod Heaps
 pub mod States
+pub mod Choices
 pub mod Machine
 pub mod Tagged
 pub mod Relation

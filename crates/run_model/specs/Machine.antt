@@ -40,6 +40,7 @@ use Rattle.act_model.specs.Acts.{act_at, op_of}
 use Rattle.act_model.specs.Changes.{is_pair, put}
 use Rattle.act_model.specs.Entries.{entry_row}
 use Rattle.flow_model.specs.Rules.{clears}
+use Rattle.run_model.specs.Choices.{Choices, Empty, Single, Then, ForEach, ForEvery, by_each, counted, listed, or_single, picked}
 use Rattle.run_model.specs.Heaps.{Value, Zero, Nonzero, Object, LockRef, Heap, cell, cell_value, held_value, is_lock, is_null, is_owned, lock_at, with_new, with_count, with_mode, with_stored, with_null, with_cleared}
 
 -- ---- states
@@ -153,88 +154,86 @@ handlers_of None = []
 handlers_of (Some place) = place.handlers
 
 -- a throw: the handlers that it can come to, and where it can leave, what it does in the frame below
-abbrev pub unwinds : SubjectParts → Callback → Heap → List Frame → List State
-unwinds x at h [] = Over Uncaught ∷ []
+abbrev pub unwinds : SubjectParts → Callback → Heap → List Frame → Choices State
+unwinds x at h [] = Single (Over Uncaught)
 unwinds x at h (f ∷ rest) =
-    map (moves (here_of x at h f rest) f.registers) (handlers_of (place_at x.app f.method f.index))
-    ++ (if leaves_at x.app f.method f.index then unwinds x at h rest else [])
+    Then (by_each (moves (here_of x at h f rest) f.registers) (handlers_of (place_at x.app f.method f.index)))
+    (if leaves_at x.app f.method f.index then unwinds x at h rest else Empty)
 
-abbrev pub throws_from : Here → List State
+abbrev pub throws_from : Here → Choices State
 throws_from here = unwinds here.subject here.callback here.heap (here.frame ∷ here.rest)
 
 -- ---- where an instruction throws
 -- by a register that must not be null
-abbrev pub null_options : Here → Option Value → List State → List State
-null_options here None normal = Over Stuck ∷ []
+abbrev pub null_options : Here → Option Value → Choices State → Choices State
+null_options here None normal = Single (Over Stuck)
 null_options here (Some v) normal = if is_null v then throws_from here else normal
 
-abbrev pub throws_options : Here → Throws → List State → List State
+abbrev pub throws_options : Here → Throws → Choices State → Choices State
 throws_options here Never normal = normal
-throws_options here ByChoice normal = normal ++ throws_from here
+throws_options here ByChoice normal = Then normal (throws_from here)
 throws_options here (WhereZero r) normal = null_options here (register here.frame r) normal
 
 -- ---- the instructions
 -- on by each successor; the nop before a payload has none
-abbrev pub stuck_if_none : List State → List State
-stuck_if_none [] = Over Stuck ∷ []
-stuck_if_none (state ∷ states) = state ∷ states
-
 abbrev pub successors_of : Option Place → List ℕ
 successors_of None = []
 successors_of (Some place) = place.successors
 
-abbrev pub go_options : Here → List State
-go_options here =
-    stuck_if_none
-    (map (moves here here.frame.registers) (successors_of (place_at here.subject.app here.frame.method here.frame.index)))
+abbrev pub go_options : Here → Choices State
+go_options here = by_each (moves here here.frame.registers) (successors_of (place_at here.subject.app here.frame.method here.frame.index))
 
 -- the branch of a test by its value
 abbrev pub branch : (way : ℕ) → (is_zero : Bool) → ℕ
 branch way true = way
 branch way false = if way == 0 then 1 else 0
 
-abbrev pub test_options : Here → ℕ → Option Value → List State
-test_options here way None = Over Stuck ∷ []
-test_options here way (Some v) = goes_on here here.frame.registers (branch way (is_null v)) ∷ []
+abbrev pub test_options : Here → ℕ → Option Value → Choices State
+test_options here way None = Single (Over Stuck)
+test_options here way (Some v) = Single (goes_on here here.frame.registers (branch way (is_null v)))
 
 -- a copy, of a pair too: both are read before either is written
-abbrev pub copy_options : Here → ℕ → (wide : Bool) → (first second : Option Value) → List State
-copy_options here to wide None second = Over Stuck ∷ []
-copy_options here to false (Some v) second = writes here to v ∷ []
-copy_options here to true (Some v) None = Over Stuck ∷ []
-copy_options here to true (Some v) (Some w) = goes_on here (put true here.frame.registers to v w) 0 ∷ []
+abbrev pub copy_options : Here → ℕ → (wide : Bool) → (first second : Option Value) → Choices State
+copy_options here to wide None second = Single (Over Stuck)
+copy_options here to false (Some v) second = Single (writes here to v)
+copy_options here to true (Some v) None = Single (Over Stuck)
+copy_options here to true (Some v) (Some w) = Single (goes_on here (put true here.frame.registers to v w) 0)
 
-abbrev pub take_options : Here → ℕ → Option Value → List State
-take_options here to None = Over Stuck ∷ []
-take_options here to (Some v) = writes here to v ∷ []
+abbrev pub take_options : Here → ℕ → Option Value → Choices State
+take_options here to None = Single (Over Stuck)
+take_options here to (Some v) = Single (writes here to v)
 
 -- one value, or two of a pair, of which the first varies slowest
-abbrev pub written_options : Here → ℕ → (wide : Bool) → List Value → List State
-written_options here to false values = map (writes here to) values
-written_options here to true values =
-    flat_map (λ v. map (λ w. goes_on here (put true here.frame.registers to v w) 0) values) values
+abbrev pub written_pairs : Here → ℕ → (first second : List Value) → Choices State
+written_pairs here to [] second = Empty
+written_pairs here to (v ∷ first) second =
+    Then (ForEach second (λ w. goes_on here (put true here.frame.registers to v w) 0)) (written_pairs here to first second)
+
+abbrev pub written_options : Here → ℕ → (wide : Bool) → List Value → Choices State
+written_options here to false values = ForEach values (writes here to)
+written_options here to true values = written_pairs here to values values
 
 -- a store to a lock field: of null, or of a lock that no field owned before
-abbrev pub store_options : Here → ℕ → Value → List State
-store_options here l Zero = goes_on (with_heap here (with_null here.heap l)) here.frame.registers 0 ∷ []
-store_options here l Nonzero = Over Stuck ∷ []
-store_options here l (Object type) = Over Stuck ∷ []
+abbrev pub store_options : Here → ℕ → Value → Choices State
+store_options here l Zero = Single (goes_on (with_heap here (with_null here.heap l)) here.frame.registers 0)
+store_options here l Nonzero = Single (Over Stuck)
+store_options here l (Object type) = Single (Over Stuck)
 store_options here l (LockRef i) =
     if is_owned (lock_at here.heap i).owner
-    then Over Escape ∷ [] else goes_on (with_heap here (with_stored here.heap l i)) here.frame.registers 0 ∷ []
+    then Single (Over Escape) else Single (goes_on (with_heap here (with_stored here.heap l i)) here.frame.registers 0)
 
-abbrev pub write_options : Here → LockNo → Option Value → List State
-write_options here l None = Over Stuck ∷ []
+abbrev pub write_options : Here → LockNo → Option Value → Choices State
+write_options here l None = Single (Over Stuck)
 write_options here l (Some v) = store_options here l.0 v
 
 -- a value goes where a lock is not followed
-abbrev pub give_options : Here → Option Value → List State
-give_options here None = Over Stuck ∷ []
-give_options here (Some v) = if is_lock v then Over Escape ∷ [] else goes_on here here.frame.registers 0 ∷ []
+abbrev pub give_options : Here → Option Value → Choices State
+give_options here None = Single (Over Stuck)
+give_options here (Some v) = if is_lock v then Single (Over Escape) else Single (goes_on here here.frame.registers 0)
 
-abbrev pub throw_options : Here → Option Value → List State
-throw_options here None = Over Stuck ∷ []
-throw_options here (Some v) = if is_lock v then Over Escape ∷ [] else throws_from here
+abbrev pub throw_options : Here → Option Value → Choices State
+throw_options here None = Single (Over Stuck)
+throw_options here (Some v) = if is_lock v then Single (Over Escape) else throws_from here
 
 -- a return from the last frame ends the callback
 abbrev pub ended : Callback → Heap → Option Edge → State
@@ -248,14 +247,14 @@ resumes x at h (f ∷ rest) v = answers (here_of x at h f rest) v
 abbrev pub returns : Here → Value → State
 returns here v = resumes here.subject here.callback here.heap here.rest v
 
-abbrev pub return_by : Here → Option Value → List State
-return_by here None = Over Stuck ∷ []
-return_by here (Some v) = returns here v ∷ []
+abbrev pub return_by : Here → Option Value → Choices State
+return_by here None = Single (Over Stuck)
+return_by here (Some v) = Single (returns here v)
 
 -- a pair is answered as zero
-abbrev pub return_options : Here → Returned → List State
-return_options here returned.Nothing = returns here Zero ∷ []
-return_options here returned.Wide = returns here Zero ∷ []
+abbrev pub return_options : Here → Returned → Choices State
+return_options here returned.Nothing = Single (returns here Zero)
+return_options here returned.Wide = Single (returns here Zero)
 return_options here (returned.Register r) = return_by here (register here.frame r)
 
 -- ---- calls
@@ -272,42 +271,43 @@ abbrev pub gives_lock : Frame → Args → ℕ → Bool
 gives_lock f arguments from = any_below (λ k. nat_le from k && is_lock_in (register f (arg_at arguments k))) (args_len arguments)
 
 -- release: of a counted lock one less, of another all
-abbrev pub release_options : Here → ℕ → Bool → ℕ → List State
+abbrev pub release_options : Here → ℕ → Bool → ℕ → Choices State
 release_options here i true zero = throws_from here
-release_options here i true (suc n) = answers (with_heap here (with_count here.heap i n)) Zero ∷ []
-release_options here i false n = answers (with_heap here (with_count here.heap i 0)) Zero ∷ []
+release_options here i true (suc n) = Single (answers (with_heap here (with_count here.heap i n)) Zero)
+release_options here i false n = Single (answers (with_heap here (with_count here.heap i 0)) Zero)
 
 -- setReferenceCounted
-abbrev pub mode_options : Here → ℕ → Option Value → List State
-mode_options here i None = Over Stuck ∷ []
-mode_options here i (Some v) = answers (with_heap here (with_mode here.heap i (not (is_null v)))) Zero ∷ []
+abbrev pub mode_options : Here → ℕ → Option Value → Choices State
+mode_options here i None = Single (Over Stuck)
+mode_options here i (Some v) = Single (answers (with_heap here (with_mode here.heap i (not (is_null v)))) Zero)
 
 -- a lock call on lock i, which a field owns
-abbrev pub operation_options : Here → LockOp → Args → ℕ → List State
+abbrev pub operation_options : Here → LockOp → Args → ℕ → Choices State
 operation_options here Acquire arguments i =
-    answers (with_heap here (with_count here.heap i (suc (lock_at here.heap i).count))) Zero ∷ []
+    Single (answers (with_heap here (with_count here.heap i (suc (lock_at here.heap i).count))) Zero)
 operation_options here Release arguments i = release_options here i (lock_at here.heap i).counted (lock_at here.heap i).count
-operation_options here IsHeld arguments i = answers here (held_value (lock_at here.heap i).count) ∷ []
+operation_options here IsHeld arguments i = Single (answers here (held_value (lock_at here.heap i).count))
 operation_options here Mode arguments i = mode_options here i (register here.frame (argument_of arguments))
 
 -- a lock call by its receiver
-abbrev pub lock_call_options : Here → LockOp → Args → Option Value → List State
-lock_call_options here op arguments None = Over Stuck ∷ []
+abbrev pub lock_call_options : Here → LockOp → Args → Option Value → Choices State
+lock_call_options here op arguments None = Single (Over Stuck)
 lock_call_options here op arguments (Some Zero) = throws_from here
-lock_call_options here op arguments (Some Nonzero) = Over Stuck ∷ []
-lock_call_options here op arguments (Some (Object type)) = Over Stuck ∷ []
+lock_call_options here op arguments (Some Nonzero) = Single (Over Stuck)
+lock_call_options here op arguments (Some (Object type)) = Single (Over Stuck)
 lock_call_options here op arguments (Some (LockRef i)) =
-    if is_owned (lock_at here.heap i).owner then operation_options here op arguments i else Over Escape ∷ []
+    if is_owned (lock_at here.heap i).owner then operation_options here op arguments i else Single (Over Escape)
 
 -- what another call answers: newWakeLock a new lock, every other one what the outside gives
-abbrev pub answer_options : Here → LockUse → Gives → List State
+abbrev pub answer_options : Here → LockUse → Gives → Choices State
 answer_options here Make given =
-    answers (with_heap here (with_new here.heap (site_at here.subject.app here.frame.method here.frame.index)))
-    (LockRef (length here.heap.locks)) ∷ []
-answer_options here usage given = map (answers here) (answers_of here.subject.app given)
+    Single
+    (answers (with_heap here (with_new here.heap (site_at here.subject.app here.frame.method here.frame.index)))
+    (LockRef (length here.heap.locks)))
+answer_options here usage given = ForEach (answers_of here.subject.app given) (answers here)
 
-abbrev pub outside_answers : Here → LockUse → Gives → List State
-outside_answers here usage given = answer_options here usage given ++ throws_from here
+abbrev pub outside_answers : Here → LockUse → Gives → Choices State
+outside_answers here usage given = Then (answer_options here usage given) (throws_from here)
 
 -- ---- where a call leads: into a method of the application, or outside
 pub data Target : Type 0 where
@@ -362,26 +362,26 @@ abbrev pub enters : Here → Args → ℕ → State
 enters here arguments n =
     Running here.callback here.heap (entered_frame n (entry_values (slice_get here.subject.app.methods n) (call_values here.frame arguments)) ∷ here.frame ∷ here.rest)
 
-abbrev pub target_options : Here → LockUse → Args → Gives → Target → List State
-target_options here usage arguments given (Enters n) = enters here arguments n ∷ []
+abbrev pub target_options : Here → LockUse → Args → Gives → Target → Choices State
+target_options here usage arguments given (Enters n) = Single (enters here arguments n)
 target_options here usage arguments given GoesOutside = outside_answers here usage given
-target_options here usage arguments given IsStuck = Over Stuck ∷ []
+target_options here usage arguments given IsStuck = Single (Over Stuck)
 
 -- on an object of a type; a static call is on none
-abbrev pub invoke_options : Here → By → LockUse → Args → Gives → (type : Option ℕ) → List State
+abbrev pub invoke_options : Here → By → LockUse → Args → Gives → (type : Option ℕ) → Choices State
 invoke_options here by usage arguments given type =
     target_options here usage arguments given
     (target_of here.subject.app here.frame.method by usage (named_at here.subject.app here.frame.method here.frame.index) type)
 
 -- by the receiver, which is no lock
-abbrev pub receiver_options : Here → By → LockUse → Args → Gives → Option Value → List State
-receiver_options here by usage arguments given None = Over Stuck ∷ []
+abbrev pub receiver_options : Here → By → LockUse → Args → Gives → Option Value → Choices State
+receiver_options here by usage arguments given None = Single (Over Stuck)
 receiver_options here by usage arguments given (Some Zero) = throws_from here
-receiver_options here by usage arguments given (Some Nonzero) = Over Stuck ∷ []
-receiver_options here by usage arguments given (Some (LockRef i)) = Over Stuck ∷ []
+receiver_options here by usage arguments given (Some Nonzero) = Single (Over Stuck)
+receiver_options here by usage arguments given (Some (LockRef i)) = Single (Over Stuck)
 receiver_options here by usage arguments given (Some (Object type)) = invoke_options here by usage arguments given type
 
-abbrev pub plain_call_options : Here → By → LockUse → Args → Gives → List State
+abbrev pub plain_call_options : Here → By → LockUse → Args → Gives → Choices State
 plain_call_options here Static usage arguments given = invoke_options here Static usage arguments given None
 plain_call_options here Virtual usage arguments given = receiver_options here Virtual usage arguments given (receiver_in here.frame arguments)
 plain_call_options here Super usage arguments given = receiver_options here Super usage arguments given (receiver_in here.frame arguments)
@@ -395,31 +395,31 @@ lacks_argument Acquire argument = false
 lacks_argument Release argument = false
 lacks_argument IsHeld argument = false
 
-abbrev pub full_lock_call_options : Here → LockOp → Args → List State
+abbrev pub full_lock_call_options : Here → LockOp → Args → Choices State
 full_lock_call_options here op arguments =
     if lacks_argument op (register here.frame (argument_of arguments))
-    then Over Stuck ∷ [] else lock_call_options here op arguments (receiver_in here.frame arguments)
+    then Single (Over Stuck) else lock_call_options here op arguments (receiver_in here.frame arguments)
 
 -- a lock may be the receiver of a lock call, and no other argument of a call
-abbrev pub call_by_op : Here → By → LockUse → Args → Gives → Option LockOp → List State
+abbrev pub call_by_op : Here → By → LockUse → Args → Gives → Option LockOp → Choices State
 call_by_op here by usage arguments given (Some op) =
     if gives_lock here.frame arguments 1
-    then Over Escape ∷ [] else full_lock_call_options here op arguments
+    then Single (Over Escape) else full_lock_call_options here op arguments
 call_by_op here by usage arguments given None =
     if gives_lock here.frame arguments 0
-    then Over Escape ∷ [] else plain_call_options here by usage arguments given
+    then Single (Over Escape) else plain_call_options here by usage arguments given
 
-abbrev pub call_options : Here → By → LockUse → Args → Gives → List State
+abbrev pub call_options : Here → By → LockUse → Args → Gives → Choices State
 call_options here by usage arguments given = call_by_op here by usage arguments given (op_of usage)
 
 -- an array of its arguments, in the result cell
-abbrev pub fill_options : Here → Args → TypeNo → List State
+abbrev pub fill_options : Here → Args → TypeNo → Choices State
 fill_options here arguments kind =
-    if gives_lock here.frame arguments 0 then Over Escape ∷ [] else answers here (Object (Some kind.0)) ∷ []
+    if gives_lock here.frame arguments 0 then Single (Over Escape) else Single (answers here (Object (Some kind.0)))
 
 -- ---- every act
-abbrev pub act_options : Here → Option Act → List State
-act_options here None = Over Stuck ∷ []
+abbrev pub act_options : Here → Option Act → Choices State
+act_options here None = Single (Over Stuck)
 act_options here (Some Go) = go_options here
 act_options here (Some (Test value way)) = test_options here way (register here.frame value)
 act_options here (Some (Copy to from wide)) =
@@ -429,11 +429,11 @@ act_options here (Some (Write to what throws)) =
     throws_options here throws (written_options here to (is_pair what) (written_values here.subject.app what))
 act_options here (Some (Fill arguments kind)) = fill_options here arguments kind
 act_options here (Some (ReadSlot to slot throws)) =
-    throws_options here throws (writes here to (cell_value (cell here.heap slot.0)) ∷ [])
+    throws_options here throws (Single (writes here to (cell_value (cell here.heap slot.0))))
 act_options here (Some (WriteSlot from slot throws)) =
     throws_options here throws (write_options here slot (register here.frame from))
 act_options here (Some (Give from throws)) = throws_options here throws (give_options here (register here.frame from))
-act_options here (Some (Check throws)) = throws_options here throws (goes_on here here.frame.registers 0 ∷ [])
+act_options here (Some (Check throws)) = throws_options here throws (Single (goes_on here here.frame.registers 0))
 act_options here (Some (Throw object)) = throw_options here (register here.frame object)
 act_options here (Some (Return answer)) = return_options here answer
 act_options here (Some (Call by usage arguments given)) = call_options here by usage arguments given
@@ -447,11 +447,6 @@ abbrev pub parameter_words : AppParts → Option ProtoParts → List (List Value
 parameter_words app None = []
 parameter_words app (Some proto) = flat_map (λ (t : TypeNo). argument_words app (type_text app t.0)) proto.params
 
--- one value of each word, in every way; those of the first word vary slowest
-abbrev pub chosen : List (List Value) → List (List Value)
-chosen [] = [] ∷ []
-chosen (word ∷ words) = flat_map (λ v. map (λ vs. v ∷ vs) (chosen words)) word
-
 -- the type of a component's objects
 abbrev pub class_type : Option ClassParts → Option ℕ
 class_type None = None
@@ -461,42 +456,59 @@ abbrev pub this_of : AppParts → Option ComponentParts → Value
 this_of app None = Object None
 this_of app (Some component) = Object (class_type (slice_get app.classes component.class.0))
 
--- the registers with which a method may begin as a callback of an object: each word is chosen, and then they fill the
--- argument registers
-abbrev pub entries_of : AppParts → Value → Option MethodRow → List (List Value)
-entries_of app this None = [] ∷ []
-entries_of app this (Some method) =
-    map (λ words. entry_values (Some method) (this ∷ words)) (chosen (parameter_words app (slice_get app.protos method.proto.0)))
+-- the method of edge e of component c begins: each word is chosen, and then they fill the argument registers
+abbrev pub starts_with : SubjectParts → Callback → Heap → ℕ → Option MethodRow → (words : List Value) → State
+starts_with x at h m method words = Running at h (entered_frame m (entry_values method words) ∷ [])
+
+abbrev pub method_starts : SubjectParts → Callback → Heap → ℕ → (this : Value) → Option MethodRow → Choices State
+method_starts x at h m this None = Single (starts_with x at h m None [])
+method_starts x at h m this (Some method) =
+    ForEvery (parameter_words x.app (slice_get x.app.protos method.proto.0)) (λ words. starts_with x at h m (Some method) (this ∷ words))
 
 -- edge e of component c: an edge without a method is at its end at once
-abbrev pub begins : SubjectParts → List ℕ → Heap → ℕ → ℕ → Edge → Option ℕ → List State
+abbrev pub begins : SubjectParts → List ℕ → Heap → ℕ → ℕ → Edge → Option ℕ → Choices State
 begins x states h c e edge None =
-    AtEnd (record { states = slice_set states c edge.to; component = c; edge = e }) (with_cleared h (clears x c edge)) ∷ []
+    Single (AtEnd (record { states = slice_set states c edge.to; component = c; edge = e }) (with_cleared h (clears x c edge)))
 begins x states h c e edge (Some m) =
-    map (λ registers. Running (record { states = states; component = c; edge = e }) (with_cleared h (clears x c edge)) (entered_frame m registers ∷ []))
-    (entries_of x.app (this_of x.app (slice_get x.list c)) (slice_get x.app.methods m))
+    method_starts x (record { states = states; component = c; edge = e }) (with_cleared h (clears x c edge)) m
+    (this_of x.app (slice_get x.list c)) (slice_get x.app.methods m)
 
 -- the starts of the edges that leave the state of component c; e numbers the first edge, c the first component
-abbrev pub edge_starts : SubjectParts → List ℕ → Heap → ℕ → ℕ → List Edge → List State
-edge_starts x states h c e [] = []
+abbrev pub edge_starts : SubjectParts → List ℕ → Heap → ℕ → ℕ → List Edge → Choices State
+edge_starts x states h c e [] = Empty
 edge_starts x states h c e (edge ∷ edges) =
-    (if edge.from == slice_index states c then begins x states h c e edge (callback_at x.list c edge.callback) else [])
-    ++ edge_starts x states h c (suc e) edges
+    Then (if edge.from == slice_index states c then begins x states h c e edge (callback_at x.list c edge.callback) else Empty)
+    (edge_starts x states h c (suc e) edges)
 
-abbrev pub starts : SubjectParts → List ℕ → Heap → ℕ → List ComponentParts → List State
-starts x states h c [] = []
-starts x states h c (component ∷ components) = edge_starts x states h c 0 (edges_of component.kind) ++ starts x states h (suc c) components
+abbrev pub component_starts : SubjectParts → List ℕ → Heap → ℕ → List ComponentParts → Choices State
+component_starts x states h c [] = Empty
+component_starts x states h c (component ∷ components) =
+    Then (edge_starts x states h c 0 (edges_of component.kind)) (component_starts x states h (suc c) components)
+
+abbrev pub starts : SubjectParts → List ℕ → Heap → Choices State
+starts x states h = component_starts x states h 0 x.list
 
 -- ---- runs
--- what may come next
-abbrev pub options_of : SubjectParts → State → List State
-options_of x (Idle states h) = starts x states h 0 x.list
-options_of x (Running at h []) = Over Stuck ∷ []
-options_of x (Running at h (f ∷ rest)) = act_options (here_of x at h f rest) (act_at x.app f.method f.index)
-options_of x (AtEnd at h) = Idle at.states h ∷ []
-options_of x (Over why) = Over why ∷ []
+-- what may come next: an instruction after which nothing comes is Stuck, and where no callback can start, the machine
+-- rests
+abbrev pub choices_of : SubjectParts → State → Choices State
+choices_of x (Idle states h) = or_single (starts x states h) (Idle states h)
+choices_of x (Running at h []) = Single (Over Stuck)
+choices_of x (Running at h (f ∷ rest)) = or_single (act_options (here_of x at h f rest) (act_at x.app f.method f.index)) (Over Stuck)
+choices_of x (AtEnd at h) = Single (Idle at.states h)
+choices_of x (Over why) = Single (Over why)
 
--- the option of a number, and the state itself where there is none
+abbrev pub options_of : SubjectParts → State → List State
+options_of x s = listed (choices_of x s)
+
+-- how many they are, and option number k, without the list
+abbrev pub count_of : SubjectParts → State → ℕ
+count_of x s = counted (choices_of x s)
+
+abbrev pub option_at : SubjectParts → State → ℕ → Option State
+option_at x s k = picked (choices_of x s) k
+
+-- the option of a number
 abbrev pub step : SubjectParts → ℕ → State → State
 step x k s = slice_index_or (options_of x s) (k % length (options_of x s)) s
 

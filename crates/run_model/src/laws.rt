@@ -16,7 +16,8 @@ ghost use Rattle.app_model.specs.declared.calls.By.{By};
 ghost use Rattle.app_model.specs.declared.lock_use.LockUse.{LockUse};
 ghost use Rattle.dalvik.specs.declared.ins.Args.{Args};
 ghost use Rattle.run_model.specs.Heaps.{Heap, status};
-ghost use Rattle.run_model.specs.Machine.{Callback, Frame, Idle, Running, options_of, run_of, target_of};
+ghost use Rattle.run_model.specs.Machine.{Callback, Frame, Running, options_of, run_of, starts, target_of};
+ghost use Rattle.run_model.specs.Choices.{listed};
 ghost use Rattle.run_model.specs.Relation.{Each, IsHeap, IsIdle, IsInside, IsSound};
 ghost use Rattle.run_model.specs.Soundness.{FitsTarget, HoldsLock, LeavesNoneHeld, StandsWell};
 ghost use Rattle.run_model.specs.Tagged.{IsTagged};
@@ -32,7 +33,7 @@ pub fn soundness()
 
 /// The part of it that needs the rules inside callbacks alone: the start of a callback, and each step inside it.
 pub fn soundness_inside()
-    ensures starts { (x : SubjectParts) (l : ℕ) (set : Set) → IsTagged x → IsClosed (Inner x l (status_masks x l)) set → (states : List ℕ) (h : Heap) → IsIdle x l set states h → Each (IsInside x l set) (options_of x (Idle states h)) }
+    ensures starts { (x : SubjectParts) (l : ℕ) (set : Set) → IsTagged x → IsClosed (Inner x l (status_masks x l)) set → (states : List ℕ) (h : Heap) → IsIdle x l set states h → Each (IsInside x l set) (listed (starts x states h)) }
     ensures steps { (x : SubjectParts) (l : ℕ) (set : Set) → IsTagged x → IsClosed (Inner x l (status_masks x l)) set → (at : Callback) (h : Heap) (frames : List Frame) → IsInside x l set (Running at h frames) → Each (IsInside x l set) (options_of x (Running at h frames)) }
 {}
 
