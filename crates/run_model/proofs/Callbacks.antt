@@ -18,7 +18,7 @@ use Rattle.run_model.specs.Heaps.{Value, Heap, status, with_cleared, cleared_cel
 use Rattle.run_model.specs.Machine.{Callback, Running, edge_starts, component_starts, starts, begins, entered_frame, entry_values, method_starts, parameter_words, this_of}
 use Rattle.run_model.specs.Choices.{Empty, chosen}
 use Rattle.app_model.specs.declared.rows.MethodRow.{MethodRow}
-use Rattle.run_model.specs.Relation.{AreTagged, AreViews, Each, IsCallback, IsEnded, IsHeap, IsIdle, IsInside}
+use Rattle.run_model.specs.Relation.{AreTagged, AreViews, IsCallback, IsEnded, IsHeap, IsIdle, IsInside}
 use Rattle.run_model.specs.Soundness.{ExitsWell}
 use Rattle.run_model.specs.Tagged.{IsTagged}
 use Rattle.flow_model.proofs.TestLaws.{none_some}

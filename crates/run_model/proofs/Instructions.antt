@@ -33,9 +33,9 @@ use Rattle.flow_model.specs.Scope.{is_escape, may_be_lock, may_be_stored}
 use Rattle.app_model.specs.Subject.{SubjectParts, slot_count}
 use Rattle.run_model.specs.Heaps.{Value, Zero, Nonzero, Object, LockRef, Heap, Lock, cell, cell_value, counter_at, is_lock, is_lost, is_null, is_owned, lock_at, status, with_null, with_stored}
 use Rattle.run_model.specs.Machine.{Frame, Here, Over, State, Escape, act_options, answers, branch, copy_options, fill_options, give_options, gives_lock, go_options, goes_on, goes_to, here_of, moves, null_options, register, result_index, return_by, return_options, resumes, store_options, successors_of, take_options, test_options, throw_options, throws_from, throws_options, with_heap, write_options, writes, written_options, written_pairs, written_values}
-use Rattle.run_model.specs.Choices.{Choices, Empty, Single, Then, ForEach, by_each, counted, listed}
+use Rattle.run_model.specs.Choices.{Choices, Single, ForEach}
 use Rattle.run_model.specs.Relation.{AreTagged, Below, Each, IsHeap, IsInside, Means}
-use Rattle.run_model.proofs.Members.{EachWay, each_append, each_by, each_map, each_or, each_then, way_if}
+use Rattle.run_model.proofs.Members.{EachWay, each_by, each_map, each_then, way_if}
 use Rattle.run_model.proofs.Rows.{null_ok, store_ok}
 use Rattle.run_model.proofs.Heaps.{held_above, emptied_status, kept_status, null_cell, null_heap, null_other, other_locks, status_is, taken_apart, taken_apart_cell, taken_cell, taken_heap, taken_other, taken_other_status, taken_status}
 use Rattle.run_model.proofs.Meanings.{KeepsBut, only_at, held_same, means_null, means_stored, may_be, new_stored, zero_stored}

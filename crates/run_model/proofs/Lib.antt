@@ -1,4 +1,5 @@
 pub mod Members
+pub mod Choices
 pub mod Rows
 pub mod Heaps
 pub mod Meanings

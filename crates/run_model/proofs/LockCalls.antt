@@ -1,5 +1,5 @@
 -- Lock calls keep the relation.
-use Rattle.std.proofs.Common.{◌≡◌, ℕ, zero, suc, pred, ◌≤◌, Bool, true, false, List, [], ◌∷◌, length, map, set, Option, Some, None, refl, sym, ap, ◌∙◌, arith, subst}
+use Rattle.std.proofs.Common.{◌≡◌, ℕ, zero, suc, pred, ◌≤◌, Bool, true, false, List, length, map, set, Option, Some, None, refl, sym, ap, ◌∙◌, arith, subst}
 use Rattle.std.specs.Prelude.{not, ◌==◌, IfSome}
 use Rattle.std.proofs.lemmas.Bool.{eqb-true, eqb-false}
 use Rattle.std.proofs.lemmas.List.{length-set}
@@ -25,8 +25,8 @@ use Rattle.flow_model.specs.Status.{acquire_passes, release_passes, release_thro
 use Rattle.app_model.specs.Subject.{SubjectParts, slot_count}
 use Rattle.run_model.specs.Heaps.{Value, Zero, Heap, Lock, cell, held_value, is_lost, is_null, lock_at, status, status_of, with_count}
 use Rattle.run_model.specs.Machine.{Frame, Here, here_of, with_heap, register, result_index, answers, release_options, mode_options, operation_options}
-use Rattle.run_model.specs.Choices.{Choices, Empty, Single, Then, ForEach, by_each, counted, listed}
-use Rattle.run_model.specs.Relation.{AreTagged, Each, IsHeap, IsInside, Means, held_in}
+use Rattle.run_model.specs.Choices.{Single}
+use Rattle.run_model.specs.Relation.{AreTagged, IsHeap, IsInside, Means, held_in}
 use Rattle.run_model.proofs.Members.{EachWay}
 use Rattle.run_model.proofs.Rows.{some, acquire_ok, release_ok, release_all_ok, release_zero, is_held_ok}
 use Rattle.run_model.proofs.Heaps.{cell_same, changed_status, changed_other, changed_ok, changed_loose, changed_apart, changed_count, status_at}

@@ -1,7 +1,7 @@
 -- What holds of each member of a list.
 use Rattle.std.proofs.Common.{◌≡◌, ℕ, zero, suc, Bool, true, false, if◌then◌else◌, List, [], ◌∷◌, ◌++◌, map, get_or, slice_get, Some, refl, flat_map}
 use Rattle.std.specs.Prelude.{◌==◌}
-use Rattle.run_model.specs.Choices.{Choices, Empty, Single, Then, by_each, counted, listed, or_single}
+use Rattle.run_model.specs.Choices.{Choices, Single, Then, by_each, counted, listed, or_single}
 use Rattle.run_model.specs.Relation.{Each}
 
 module _ {A : Type 0} (P : A → Type 0) where

@@ -1,5 +1,5 @@
 -- What carries every instruction: on to a successor, and a throw.
-use Rattle.std.proofs.Common.{if◌then◌else◌, ◌≡◌, ℕ, ◌<◌, ◌≤◌, Bool, true, List, [], ◌∷◌, map, length, Option, Some, None, refl, sym, inl, ⊎_elim, arith, subst, slice_get}
+use Rattle.std.proofs.Common.{if◌then◌else◌, ◌≡◌, ℕ, ◌<◌, ◌≤◌, Bool, true, List, [], ◌∷◌, length, Option, Some, None, refl, sym, inl, ⊎_elim, arith, subst, slice_get}
 use Rattle.std.proofs.lemmas.Bool.{cases_Bool}
 use Rattle.dalvik.specs.declared.body.Place.{Place}
 use Rattle.app_model.specs.declared.component.Edge.{Edge}
@@ -29,11 +29,11 @@ use Rattle.app_model.proofs.Cells.{length-row_at}
 use Rattle.flow_model.specs.Subject.{status_masks, own_operation, mask_passes, mask_throws}
 use Rattle.run_model.specs.Heaps.{Value, Zero, Heap, status, is_lost, counter_at, cell}
 use Rattle.run_model.specs.Machine.{Callback, Frame, handlers_of, here_of, goes_to, goes_on, moves, throws_from, unwinds}
-use Rattle.run_model.specs.Choices.{Choices, Empty, Single, Then, ForEach, by_each, counted, listed}
-use Rattle.run_model.specs.Relation.{AreTagged, Below, Each, IsCallback, IsHeap, IsInside, IsTop, IsWaiting, Means}
+use Rattle.run_model.specs.Choices.{Empty, by_each}
+use Rattle.run_model.specs.Relation.{AreTagged, Below, IsCallback, IsHeap, IsInside, IsTop, IsWaiting, Means}
 use Rattle.run_model.specs.Tagged.{IsTagged}
 use Rattle.flow_model.specs.TagFlow.{IsLive, can_throw, leads_on, may_throw}
-use Rattle.run_model.proofs.Members.{EachWay, each_append, each_by, each_map, each_or, each_then, way_if}
+use Rattle.run_model.proofs.Members.{EachWay, each_by, each_then, way_if}
 use Rattle.run_model.proofs.Rows.{only_ok}
 use Rattle.run_model.proofs.Heaps.{status_is}
 use Rattle.run_model.proofs.Registers.{tagged_under}

@@ -1,5 +1,5 @@
 //! What the flow rules say of the runs of the machine.
-ghost use Rattle.std.specs.Prelude.{◌≡◌, ◌<◌, ◌↔◌, ℕ, List, Option, Some, true};
+ghost use Rattle.std.specs.Prelude.{◌≡◌, ◌<◌, ◌↔◌, ◌≢◌, ◌%◌, ℕ, List, [], length, slice_get, Option, Some, true};
 ghost use Rattle.flow_model.specs.Derived.{Set, IsClosed};
 ghost use Rattle.app_model.specs.Masks.{is_held};
 ghost use Rattle.flow_model.specs.Policy.{MeetsPolicy};
@@ -16,7 +16,7 @@ ghost use Rattle.app_model.specs.declared.calls.By.{By};
 ghost use Rattle.app_model.specs.declared.lock_use.LockUse.{LockUse};
 ghost use Rattle.dalvik.specs.declared.ins.Args.{Args};
 ghost use Rattle.run_model.specs.Heaps.{Heap, status};
-ghost use Rattle.run_model.specs.Machine.{Callback, Frame, Running, options_of, run_of, starts, target_of};
+ghost use Rattle.run_model.specs.Machine.{Callback, Frame, Running, State, count_of, option_at, options_of, run_of, starts, step, target_of};
 ghost use Rattle.run_model.specs.Choices.{listed};
 ghost use Rattle.run_model.specs.Relation.{Each, IsHeap, IsIdle, IsInside, IsSound};
 ghost use Rattle.run_model.specs.Soundness.{FitsTarget, HoldsLock, LeavesNoneHeld, StandsWell};
@@ -46,6 +46,15 @@ pub fn call_targets()
 /// A status is held exactly where the field owns a lock with a count above zero.
 pub fn held_statuses()
     ensures held { (n l : ℕ) (h : Heap) → IsHeap n h → (is_held (status h l) ≡ true) ↔ HoldsLock h l }
+{}
+
+/// The options of a state, of which there is always one: how many they are, and each single one, can be told without the
+/// list of them, and a step takes the one of its number.
+pub fn options_law()
+    ensures some { (x : SubjectParts) (s : State) → options_of x s ≢ [] }
+    ensures count { (x : SubjectParts) (s : State) → length (options_of x s) ≡ count_of x s }
+    ensures member { (x : SubjectParts) (s : State) (k : ℕ) → slice_get (options_of x s) k ≡ option_at x s k }
+    ensures step { (x : SubjectParts) (s : State) (k : ℕ) → option_at x s (k % count_of x s) ≡ Some (step x k s) }
 {}
 
 /// Runs of small applications by computation, so that an error which the rules share with the machine shows.
