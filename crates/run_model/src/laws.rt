@@ -21,7 +21,7 @@ ghost use Rattle.run_model.specs.Choices.{listed};
 ghost use Rattle.run_model.specs.Relation.{Each, IsHeap, IsIdle, IsInside, IsSound};
 ghost use Rattle.run_model.specs.Soundness.{FitsTarget, HoldsLock, LeavesNoneHeld, StandsWell};
 ghost use Rattle.run_model.specs.Tagged.{IsTagged};
-ghost use Rattle.run_model.specs.Worked.{ClearsOwned, CopyDown, CopyUp, DivisionByTwo, DivisionThrows, KeepsStatic, LeavesFree, LeavesHeld, LockEscapes, LosesLock, MakingThrows, MonitorOnNull, MonitorOnObject, NonzeroBranches, OutsideEnds, ReceiverFirst, ReleaseThrows, ServiceFirst, StoreToNull, StoreToObject, SwitchGoes, WideRead, ZeroBranches};
+ghost use Rattle.run_model.specs.Worked.{CallsSuper, ClearsOwned, CopyDown, CopyUp, DivisionByTwo, DivisionThrows, KeepsStatic, LeadsOutside, LeavesFree, LeavesHeld, LockEscapes, LosesLock, MakingThrows, MonitorOnNull, MonitorOnObject, NoReceiver, NonzeroBranches, NullReceiver, OutsideEnds, PicksOverride, ReceiverFirst, ReleaseThrows, RestsAlone, ServiceFirst, StaticCall, StaticReturn, StoreToNull, StoreToObject, SwitchGoes, ThrowsThrough, WideRead, ZeroBranches};
 
 /// Soundness: what a closed set of facts that meets the policy says of every run. The relation between the set and the
 /// state in which a run stands needs no policy.
@@ -82,4 +82,13 @@ pub fn worked_runs()
     ensures receiver { ReceiverFirst }
     ensures service { ServiceFirst }
     ensures outside { OutsideEnds }
+    ensures static_call { StaticCall }
+    ensures static_return { StaticReturn }
+    ensures through { ThrowsThrough }
+    ensures override { PicksOverride }
+    ensures super_call { CallsSuper }
+    ensures leads_outside { LeadsOutside }
+    ensures no_receiver { NoReceiver }
+    ensures null_receiver { NullReceiver }
+    ensures rest { RestsAlone }
 {}
