@@ -54,7 +54,7 @@ pub record AreCallRuns : Type 0 where
   pub static_call : StaticCall
   pub static_return : StaticReturn
   pub through : ThrowsThrough
-  pub override : PicksOverride
+  pub overriding : PicksOverride
   pub super_call : CallsSuper
   pub leads_outside : LeadsOutside
   pub no_receiver : NoReceiver
@@ -63,4 +63,4 @@ pub record AreCallRuns : Type 0 where
 
 pub call_runs : AreCallRuns
 unfolding seen next_seen methods_seen calling resting status act_at type_text name_text place_at places_of operand_at lock_use_at slot_at line_of class_of_type superclass_at may_be_sub is_sub above_type has_unknown_above is_proto result_text callback_at edge_at owner_at slot_count is_on_array super_of lookup_of method_in is_lost cell
-call_runs = record { static_call = refl; static_return = refl; through = refl; override = refl; super_call = refl; leads_outside = refl; no_receiver = refl; null_receiver = refl; rest = refl }
+call_runs = record { static_call = refl; static_return = refl; through = refl; overriding = refl; super_call = refl; leads_outside = refl; no_receiver = refl; null_receiver = refl; rest = refl }

@@ -85,7 +85,7 @@ pub fn worked_runs()
     ensures static_call { StaticCall }
     ensures static_return { StaticReturn }
     ensures through { ThrowsThrough }
-    ensures override { PicksOverride }
+    ensures overriding { PicksOverride }
     ensures super_call { CallsSuper }
     ensures leads_outside { LeadsOutside }
     ensures no_receiver { NoReceiver }

@@ -79,8 +79,8 @@ returns-clause-static_return c = call_runs.static_return
 pub returns-clause-through : goal.returns-clause-through
 returns-clause-through c = call_runs.through
 
-pub returns-clause-override : goal.returns-clause-override
-returns-clause-override c = call_runs.override
+pub returns-clause-overriding : goal.returns-clause-overriding
+returns-clause-overriding c = call_runs.overriding
 
 pub returns-clause-super_call : goal.returns-clause-super_call
 returns-clause-super_call c = call_runs.super_call
