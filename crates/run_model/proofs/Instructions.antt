@@ -34,7 +34,7 @@ use Rattle.app_model.specs.Subject.{SubjectParts, slot_count}
 use Rattle.run_model.specs.Heaps.{Value, Zero, Nonzero, Object, LockRef, Heap, Lock, cell, cell_value, counter_at, is_lock, is_lost, is_null, is_owned, lock_at, status, with_null, with_stored}
 use Rattle.run_model.specs.Machine.{Frame, Here, Over, State, Escape, act_options, answers, branch, copy_options, fill_options, give_options, gives_lock, go_options, goes_on, goes_to, here_of, moves, null_options, register, result_index, return_by, return_options, resumes, store_options, successors_of, take_options, test_options, throw_options, throws_from, throws_options, with_heap, write_options, writes, written_options, written_pairs, written_values}
 use Rattle.run_model.specs.Choices.{Choices, Single, ForEach}
-use Rattle.run_model.specs.Relation.{AreTagged, Below, Each, IsHeap, IsInside, Means}
+use Rattle.run_model.specs.Relation.{AreTagged, Below, Each, IsInside, Means}
 use Rattle.run_model.proofs.Members.{EachWay, each_by, each_map, each_then, way_if}
 use Rattle.run_model.proofs.Rows.{null_ok, store_ok}
 use Rattle.run_model.proofs.Heaps.{held_above, emptied_status, kept_status, null_cell, null_heap, null_other, other_locks, status_is, taken_apart, taken_apart_cell, taken_cell, taken_heap, taken_other, taken_other_status, taken_status}
@@ -44,7 +44,7 @@ use Rattle.run_model.proofs.Entries.{written_ok}
 use Rattle.run_model.proofs.Masks.{fails_zero, in_if, passes_full, test_ok}
 use Rattle.run_model.proofs.Slots.{stored_below}
 use Rattle.run_model.proofs.Calls.{call_ok, given_by_tag}
-use Rattle.run_model.proofs.Steps.{Premises, Top, goes_ok, none_waits, only_status, out_of, quiet_ok, row_of, start_status, throws_ok}
+use Rattle.run_model.proofs.Steps.{Premises, Stand, goes_ok, none_waits, only_status, out_of, quiet_ok, row_of, start_status, throws_ok}
 
 if_stored : (b : Bool) → not b ≡ false → b ≡ true
 if_stored true e = refl
@@ -77,7 +77,9 @@ module _ (x : SubjectParts) (own : ℕ) (set_of : Set) (p : Premises x own set_o
   abbrev number : ℕ
   number = slot_count x
 
-  module _ (h : Heap) (ok : IsHeap number h) (f : Frame) (rest : List Frame) (t : Top x own set_of p h f rest) where
+  module _ (n : Stand x own set_of p) where
+    open n use {h, ok, f, rest, t}
+
     abbrev here : Here
     here = here_of x p.at h f rest
 
@@ -101,7 +103,7 @@ module _ (x : SubjectParts) (own : ℕ) (set_of : Set) (p : Premises x own set_o
       by_throws Never normal same passed = passed (only_status h own)
       by_throws ByChoice normal same passed =
           each_then (IsInside x own set_of) normal (throws_from here) (passed (only_status h own))
-          (throws_ok x own set_of p h ok f rest a t is (same ∙ only_status h own) kept)
+          (throws_ok x own set_of p n a is (same ∙ only_status h own) kept)
       by_throws (WhereZero r) normal same passed = where_null (register f r) refl
         where
           where_null : (o : Option Value) → register f r ≡ o → EachWay (IsInside x own set_of) (null_options here o normal)
@@ -110,14 +112,14 @@ module _ (x : SubjectParts) (own : ℕ) (set_of : Set) (p : Premises x own set_o
               way_if (IsInside x own set_of) (is_null v) (throws_from here) normal
               (λ null.
               (let zero_there : Means (tag_in row r) Zero t.lo (length h.locks) h = subst (λ (w : Value). Means (tag_in row r) w t.lo (length h.locks) h) (is_zero_value v null) (register_means r v there) in
-              throws_ok x own set_of p h ok f rest a t is (same ∙ fails_zero own t.lo (length h.locks) h (tag_in row r) zero_there) kept))
+              throws_ok x own set_of p n a is (same ∙ fails_zero own t.lo (length h.locks) h (tag_in row r) zero_there) kept))
               (λ full. passed (passes_full own t.lo (length h.locks) h (tag_in row r) v full (register_means r v there)))
 
     -- a register that gets a value
     write_ok : (a : Act) (to : ℕ) (tag : Tag) (v : Value) → act_at x.app f.method f.index ≡ Some a → in_mask (passes own a row out 0 now) now ≡ true
         → (AreTagged (set row to tag) (set f.registers to v) t.lo (length h.locks) h → AreTagged (after (site_at x.app f.method f.index) a row) (set f.registers to v) t.lo (length h.locks) h)
         → Means tag v t.lo (length h.locks) h → IsInside x own set_of (writes here to v)
-    write_ok a to tag v is mask as_after means = quiet_ok x own set_of p h ok f rest (set f.registers to v) a 0 t is mask (as_after (tagged_set row f.registers t.lo (length h.locks) h t.registers to tag v means))
+    write_ok a to tag v is mask as_after means = quiet_ok x own set_of p n (set f.registers to v) a 0 is mask (as_after (tagged_set row f.registers t.lo (length h.locks) h t.registers to tag v means))
 
     take_ok : (to : ℕ) → act_at x.app f.method f.index ≡ Some (TakeResult to) → (o : Option Value) → register f (result_index f) ≡ o → EachWay (IsInside x own set_of) (take_options here to o)
     take_ok to is None there = (tt, tt)
@@ -134,7 +136,7 @@ module _ (x : SubjectParts) (own : ℕ) (set_of : Set) (p : Premises x own set_o
     goes_there : (a : Act) (k i : ℕ) → act_at x.app f.method f.index ≡ Some a → in_mask (passes own a row out k now) now ≡ true → AreTagged (after (site_at x.app f.method f.index) a row) f.registers t.lo (length h.locks) h
         → successor_at x.app f.method f.index k ≡ Some i → IsInside x own set_of (moves here f.registers i)
     goes_there a k i is mask tagged next =
-        subst (λ (o : Option ℕ). IsInside x own set_of (goes_to here f.registers o)) next (quiet_ok x own set_of p h ok f rest f.registers a k t is mask tagged)
+        subst (λ (o : Option ℕ). IsInside x own set_of (goes_to here f.registers o)) next (quiet_ok x own set_of p n f.registers a k is mask tagged)
 
     go_ok : act_at x.app f.method f.index ≡ Some Go → EachWay (IsInside x own set_of) (go_options here)
     go_ok is =
@@ -146,7 +148,7 @@ module _ (x : SubjectParts) (own : ℕ) (set_of : Set) (p : Premises x own set_o
     test_branch value way is (Some v) there =
         let k = branch way (is_null v) in
         let mask = subst (λ (b : Bool). in_mask (test_passes own (tag_in row value) b now) now ≡ true) (sym (branch_is way (is_null v))) (test_ok own t.lo (length h.locks) h (tag_in row value) v (register_means value v there)) in
-        (quiet_ok x own set_of p h ok f rest f.registers (Test value way) k t is mask t.registers, tt)
+        (quiet_ok x own set_of p n f.registers (Test value way) k is mask t.registers, tt)
 
     -- ---- copies and writes
     copy_ok : (to from : ℕ) (wide : Bool) → act_at x.app f.method f.index ≡ Some (Copy to from wide) → (o o' : Option Value) → register f from ≡ o → register f (from + 1) ≡ o' → EachWay (IsInside x own set_of) (copy_options here to wide o o')
@@ -154,7 +156,7 @@ module _ (x : SubjectParts) (own : ℕ) (set_of : Set) (p : Premises x own set_o
     copy_ok to from false is (Some v) o' there next = (write_ok (Copy to from false) to (tag_in row from) v is (only_status h own) (λ a. a) (register_means from v there), tt)
     copy_ok to from true is (Some v) None there next = (tt, tt)
     copy_ok to from true is (Some v) (Some w) there next = (
-      quiet_ok x own set_of p h ok f rest (put true f.registers to v w) (Copy to from true) 0 t is (only_status h own)
+      quiet_ok x own set_of p n (put true f.registers to v w) (Copy to from true) 0 is (only_status h own)
           (tagged_put row f.registers t.lo (length h.locks) h t.registers true to (tag_in row from) (tag_in row (from + 1)) v w (register_means from v there) (register_means (from + 1) w next)),
       tt,
     )
@@ -166,7 +168,7 @@ module _ (x : SubjectParts) (own : ℕ) (set_of : Set) (p : Premises x own set_o
 
       put_ok : (wide : Bool) → is_pair what ≡ wide → (v w : Value) → meant v → meant w → IsInside x own set_of (goes_on here (put wide f.registers to v w) 0)
       put_ok wide same v w vok wok =
-          quiet_ok x own set_of p h ok f rest (put wide f.registers to v w) (Write to what when) 0 t is mask
+          quiet_ok x own set_of p n (put wide f.registers to v w) (Write to what when) 0 is mask
           (rw same (tagged_put row f.registers t.lo (length h.locks) h t.registers wide to (written_tag what) (written_tag what) v w vok wok))
 
       pairs_ok : is_pair what ≡ true → (first second : List Value) → Each meant first → Each meant second → EachWay (IsInside x own set_of) (written_pairs here to first second)
@@ -194,7 +196,7 @@ module _ (x : SubjectParts) (own : ℕ) (set_of : Set) (p : Premises x own set_o
     check_ok : (when : Throws) → act_at x.app f.method f.index ≡ Some (Check when) → EachWay (IsInside x own set_of) (throws_options here when (Single (goes_on here f.registers 0)))
     check_ok when is =
         by_throws (Check when) is t.registers when _ refl
-        (λ mask. (quiet_ok x own set_of p h ok f rest f.registers (Check when) 0 t is mask t.registers, tt))
+        (λ mask. (quiet_ok x own set_of p n f.registers (Check when) 0 is mask t.registers, tt))
 
     -- ---- where a lock would not be followed: it is none, by its tag
     no_lock_at : (r : ℕ) (v : Value) → register f r ≡ Some v → may_be_lock (tag_in row r) ≡ false → is_lock v ≡ true → ⊥
@@ -210,14 +212,14 @@ module _ (x : SubjectParts) (own : ℕ) (set_of : Set) (p : Premises x own set_o
         given mask None there = (tt, tt)
         given mask (Some v) there =
             way_if (IsInside x own set_of) (is_lock v) (Single (Over Escape)) (Single (goes_on here f.registers 0)) (λ lock. absurd (no_lock_at from v there off lock))
-            (λ _. (quiet_ok x own set_of p h ok f rest f.registers (Give from when) 0 t is mask t.registers, tt))
+            (λ _. (quiet_ok x own set_of p n f.registers (Give from when) 0 is mask t.registers, tt))
 
     throw_ok : (object : ℕ) → act_at x.app f.method f.index ≡ Some (Throw object) → (o : Option Value) → register f object ≡ o → EachWay (IsInside x own set_of) (throw_options here o)
     throw_ok object is None there = (tt, tt)
     throw_ok object is (Some v) there =
         way_if (IsInside x own set_of) (is_lock v) (Single (Over Escape)) (throws_from here)
         (λ lock. absurd (no_lock_at object v there (subst (λ (o : Option Act). is_escape o row ≡ false) is (p.tagged.no_escape f.method f.index t.reached)) lock))
-        (λ _. throws_ok x own set_of p h ok f rest (Throw object) t is (only_status h own) t.registers)
+        (λ _. throws_ok x own set_of p n (Throw object) is (only_status h own) t.registers)
 
     -- ---- stores
     -- of null to lock field l
@@ -256,7 +258,7 @@ module _ (x : SubjectParts) (own : ℕ) (set_of : Set) (p : Premises x own set_o
       store_null there =
           let e = zero_stored (tag_in row from) t.lo (length h.locks) h (register_means from Zero there) may_store in
           let tags = tagged_map row f.registers t.lo (length h.locks) h t.registers (stored_change l.0 tag.Zero) (length emptied.locks) emptied (means_null t.lo (length h.locks) (length emptied.locks) h emptied l.0 null_keeps) in (
-            goes_ok x own set_of p h emptied f rest f.registers (WriteSlot from l when) 0 t (null_heap number h l.0 ok in_range) is (omega arith)
+            goes_ok x own set_of p n emptied f.registers (WriteSlot from l when) 0 (null_heap number h l.0 ok in_range) is (omega arith)
                 (store_mask _ (status emptied own) (subst (λ (q : Tag). in_mask (slot_passes own l q (status h own)) (status emptied own) ≡ true) (sym e) null_mask))
                 (subst (λ (q : Tag). AreTagged (after_stored row from l q) f.registers t.lo (length emptied.locks) emptied) (sym e) tags),
             tt,
@@ -292,7 +294,7 @@ module _ (x : SubjectParts) (own : ℕ) (set_of : Set) (p : Premises x own set_o
             let held : get_or f.registers from Zero ≡ LockRef i = get_or_from_slice_get f.registers from (LockRef i) Zero there in
             let means : Means (tag.Field l) (get_or f.registers from Zero) t.lo (length stored.locks) stored = held ∙ ap cell_value (sym (taken_cell number h l.0 ok in_range i below loose)) in
             let tags = tagged_retag (map (stored_change l.0 (tag.New z)) row) f.registers t.lo (length stored.locks) stored new_tags from (tag.Field l) means in
-            goes_ok x own set_of p h stored f rest f.registers (WriteSlot from l when) 0 t (taken_heap number h l.0 ok in_range i below loose) is (omega (arith, same_length))
+            goes_ok x own set_of p n stored f.registers (WriteSlot from l when) 0 (taken_heap number h l.0 ok in_range i below loose) is (omega (arith, same_length))
             (store_mask _ (status stored own) (subst (λ (q : Tag). in_mask (slot_passes own l q (status h own)) (status stored own) ≡ true) (sym e) new_mask))
             (subst (λ (q : Tag). AreTagged (after_stored row from l q) f.registers t.lo (length stored.locks) stored) (sym e) tags)
 
@@ -379,4 +381,4 @@ module _ (x : SubjectParts) (own : ℕ) (set_of : Set) (p : Premises x own set_o
     act_ok (Some (Check when)) is = check_ok when is
     act_ok (Some (Throw object)) is = throw_ok object is (register f object) refl
     act_ok (Some (Return answer)) is = return_ok answer is
-    act_ok (Some (Call by usage arguments given)) is = call_ok x own set_of p h ok f rest by usage arguments given t is
+    act_ok (Some (Call by usage arguments given)) is = call_ok x own set_of p n by usage arguments given is

@@ -51,7 +51,7 @@ pub steps_law : (x : SubjectParts) (l : ℕ) (set : Set) → IsTagged x → IsCl
 steps_law x l set tg cl at h [] ok = absurd ok.stack
 steps_law x l set tg cl at h (f ∷ rest) ok =
     each_or (IsInside x l set) (act_options (here_of x at h f rest) (act_at x.app f.method f.index)) (Over Stuck)
-    (act_ok x l set (record { tagged = tg; closed = cl; at = at; edge = ok.edge; root = ok.root; s0 = ok.s0; callback = ok.callback; method = ok.method }) h ok.heap f rest ok.stack (act_at x.app f.method f.index) refl) tt
+    (act_ok x l set (record { tagged = tg; closed = cl; at = at; edge = ok.edge; root = ok.root; s0 = ok.s0; callback = ok.callback; method = ok.method }) (record { h = h; ok = ok.heap; f = f; rest = rest; t = ok.stack }) (act_at x.app f.method f.index) refl) tt
 
 -- ---- all rules
 module _ (x : SubjectParts) (l : ℕ) (set : Set) (tg : IsTagged x) (cl : IsClosed (Rules x l) set) where
