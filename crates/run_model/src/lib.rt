@@ -8,7 +8,9 @@
 mod laws;
 mod status;
 
-pub use laws::{call_targets, held_statuses, options_law, soundness, soundness_inside, worked_runs};
+pub use laws::{
+    call_targets, held_statuses, options_law, soundness, soundness_inside, worked_runs,
+};
 pub use status::{LockState, slot_status};
 
 #[cfg(test)]
