@@ -15,7 +15,9 @@ use Rattle.flow_model.specs.Status.{reset}
 use Rattle.app_model.specs.Subject.{SubjectParts, answers_at, row_at, slot_count}
 use Rattle.flow_model.specs.Subject.{status_masks}
 use Rattle.run_model.specs.Heaps.{Value, Heap, status, with_cleared, cleared_cells, is_lost, counter_at, cell, status_of}
-use Rattle.run_model.specs.Machine.{Callback, Running, edge_starts, component_starts, starts, begins, entered_frame, entry_values, method_starts, parameter_words, this_of}
+use Rattle.run_model.specs.Frames.{Callback, Running}
+use Rattle.run_model.specs.Calls.{entered_frame, entry_values}
+use Rattle.run_model.specs.Machine.{edge_starts, component_starts, starts, begins, method_starts, parameter_words, this_of}
 use Rattle.run_model.specs.Choices.{Empty, chosen}
 use Rattle.app_model.specs.declared.rows.MethodRow.{MethodRow}
 use Rattle.run_model.specs.Relation.{AreTagged, AreViews, IsCallback, IsEnded, IsHeap, IsIdle, IsInside}

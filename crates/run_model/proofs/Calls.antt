@@ -33,7 +33,8 @@ use Rattle.app_model.specs.Targets.{method_no}
 use Rattle.ns_base.specs.declared.rows.MethodNo.{MethodNo}
 use Rattle.run_model.proofs.Targets.{invoked, target_fits}
 use Rattle.run_model.specs.Heaps.{Value, Zero, Nonzero, Object, LockRef, Heap, Lock, cell, is_owned, lock_at, new_lock, status, with_new}
-use Rattle.run_model.specs.Machine.{Frame, Here, Over, Stuck, Escape, register, is_lock_in, gives_lock, receiver_in, lacks_argument, answers, answers_of, here_of, throws_from, Target, Enters, GoesOutside, IsStuck, lock_call_options, full_lock_call_options, operation_options, answer_options, invoke_options, outside_answers, plain_call_options, receiver_options, call_by_op, call_options, target_of, target_options}
+use Rattle.run_model.specs.Frames.{Frame, Here, Over, Stuck, Escape, register, answers, answers_of, here_of, throws_from}
+use Rattle.run_model.specs.Calls.{is_lock_in, gives_lock, receiver_in, lacks_argument, Target, Enters, GoesOutside, IsStuck, lock_call_options, full_lock_call_options, operation_options, answer_options, invoke_options, outside_answers, plain_call_options, receiver_options, call_by_op, call_options, target_of, target_options}
 use Rattle.run_model.specs.Soundness.{FitsTarget}
 use Rattle.run_model.specs.Choices.{Single, ForEach}
 use Rattle.run_model.specs.Relation.{AreTagged, IsInside, IsNew, Means}

@@ -9,7 +9,8 @@ use Rattle.std.proofs.Math.Nat.{div-eq_of_lt, div-eq-sub-div, mod-eq_of_lt, mod-
 use Rattle.app_model.specs.Subject.{SubjectParts}
 use Rattle.run_model.specs.Heaps.{Value, Zero}
 use Rattle.run_model.specs.Choices.{Choices, Empty, Single, Then, ForEach, ForEvery, chosen, chosen_at, counted, listed, or_single, picked, ways}
-use Rattle.run_model.specs.Machine.{State, Idle, Running, AtEnd, Over, Stuck, act_options, here_of, choices_of, count_of, option_at, options_of, starts, step}
+use Rattle.run_model.specs.Frames.{State, Idle, Running, AtEnd, Over, Stuck, here_of}
+use Rattle.run_model.specs.Machine.{act_options, choices_of, count_of, option_at, options_of, starts, step}
 use Rattle.act_model.specs.Acts.{act_at}
 
 -- ---- lists that follow each other

@@ -20,7 +20,9 @@ use Rattle.act_model.specs.declared.act.Gives.{Gives}
 use Rattle.act_model.specs.declared.act.Gives.TheVariants as gives
 use Rattle.act_model.specs.Entries.{callback_row, callback_words, entry_row, fitted}
 use Rattle.run_model.specs.Heaps.{Value, Zero, Object, Heap, is_lock}
-use Rattle.run_model.specs.Machine.{free_numbers, free_references, free_objects, answers_of, argument_words, parameter_words, this_of, entry_values, written_values}
+use Rattle.run_model.specs.Frames.{free_numbers, free_references, free_objects, answers_of, written_values}
+use Rattle.run_model.specs.Calls.{entry_values}
+use Rattle.run_model.specs.Machine.{argument_words, parameter_words, this_of}
 use Rattle.run_model.specs.Choices.{chosen}
 use Rattle.run_model.specs.Relation.{AreTagged, Each, IsSolid, Means}
 use Rattle.run_model.proofs.Members.{each_append, each_map, each_flat_map, each_all}

@@ -32,7 +32,9 @@ use Rattle.flow_model.specs.Rules.{I1_return, by_method}
 use Rattle.flow_model.specs.Scope.{is_escape, may_be_lock, may_be_stored}
 use Rattle.app_model.specs.Subject.{SubjectParts, slot_count}
 use Rattle.run_model.specs.Heaps.{Value, Zero, Nonzero, Object, LockRef, Heap, Lock, cell, cell_value, counter_at, is_lock, is_lost, is_null, is_owned, lock_at, status, with_null, with_stored}
-use Rattle.run_model.specs.Machine.{Frame, Here, Over, State, Escape, act_options, answers, branch, copy_options, fill_options, give_options, gives_lock, go_options, goes_on, goes_to, here_of, moves, null_options, register, result_index, return_by, return_options, resumes, store_options, successors_of, take_options, test_options, throw_options, throws_from, throws_options, with_heap, write_options, writes, written_options, written_pairs, written_values}
+use Rattle.run_model.specs.Frames.{Frame, Here, Over, State, Escape, answers, goes_on, goes_to, here_of, moves, null_options, register, result_index, throws_from, throws_options, with_heap, writes, written_values}
+use Rattle.run_model.specs.Calls.{fill_options, gives_lock}
+use Rattle.run_model.specs.Machine.{act_options, branch, copy_options, give_options, go_options, return_by, return_options, resumes, store_options, successors_of, take_options, test_options, throw_options, write_options, written_options, written_pairs}
 use Rattle.run_model.specs.Choices.{Choices, Single, ForEach}
 use Rattle.run_model.specs.Relation.{AreTagged, Below, Each, IsInside, Means}
 use Rattle.run_model.proofs.Members.{EachWay, each_by, each_map, each_then, way_if}

@@ -24,7 +24,8 @@ use Rattle.flow_model.specs.Passes.{passes, lock_call_passes, lock_call_throws, 
 use Rattle.flow_model.specs.Status.{acquire_passes, release_passes, release_throws, is_held_passes, mode_passes}
 use Rattle.app_model.specs.Subject.{SubjectParts, slot_count}
 use Rattle.run_model.specs.Heaps.{Value, Zero, Heap, Lock, cell, held_value, is_lost, is_null, lock_at, status, status_of, with_count}
-use Rattle.run_model.specs.Machine.{Frame, Here, here_of, with_heap, register, result_index, answers, release_options, mode_options, operation_options}
+use Rattle.run_model.specs.Frames.{Frame, Here, here_of, with_heap, register, result_index, answers}
+use Rattle.run_model.specs.Calls.{release_options, mode_options, operation_options}
 use Rattle.run_model.specs.Choices.{Single}
 use Rattle.run_model.specs.Relation.{AreTagged, IsHeap, IsInside, Means, held_in}
 use Rattle.run_model.proofs.Members.{EachWay}

@@ -8,7 +8,8 @@ use Rattle.flow_model.specs.Rules.{Between, Carries, Inner, Rules, V1}
 use Rattle.app_model.specs.Subject.{SubjectParts, slot_count}
 use Rattle.flow_model.specs.Subject.{status_masks}
 use Rattle.run_model.specs.Heaps.{Heap, cell, is_lost, lock_at, status}
-use Rattle.run_model.specs.Machine.{Callback, Frame, State, Idle, Running, AtEnd, Over, Stuck, act_options, here_of, options_of, starts, run_from, run_of, start_of, step}
+use Rattle.run_model.specs.Frames.{Callback, Frame, State, Idle, Running, AtEnd, Over, Stuck, here_of}
+use Rattle.run_model.specs.Machine.{act_options, options_of, starts, run_from, run_of, start_of, step}
 use Rattle.run_model.specs.Choices.{listed}
 use Rattle.run_model.specs.Relation.{Each, IsHeap, IsIdle, IsInside, IsSound}
 use Rattle.run_model.specs.Soundness.{LeavesNoneHeld, StandsWell}

@@ -28,7 +28,7 @@ use Rattle.std.specs.Prelude.{Contains}
 use Rattle.app_model.proofs.Cells.{length-row_at}
 use Rattle.flow_model.specs.Subject.{status_masks, own_operation, mask_passes, mask_throws}
 use Rattle.run_model.specs.Heaps.{Value, Zero, Heap, status, is_lost, counter_at, cell}
-use Rattle.run_model.specs.Machine.{Callback, Frame, handlers_of, here_of, goes_to, goes_on, moves, throws_from, unwinds}
+use Rattle.run_model.specs.Frames.{Callback, Frame, handlers_of, here_of, goes_to, goes_on, moves, throws_from, unwinds}
 use Rattle.run_model.specs.Choices.{Empty, by_each}
 use Rattle.run_model.specs.Relation.{AreTagged, Below, IsCallback, IsHeap, IsInside, IsTop, IsWaiting, Means}
 use Rattle.run_model.specs.Tagged.{IsTagged, IsUnder}

@@ -35,7 +35,7 @@ use Rattle.act_model.specs.declared.act.Written.TheVariants as written
 use Rattle.act_model.specs.declared.act.Gives.{Gives}
 use Rattle.act_model.specs.Acts.{act_at, act_by, act_of, read_act, write_act}
 use Rattle.flow_model.specs.TagFlow.{is_call}
-use Rattle.run_model.specs.Machine.{GoesOutside, IsStuck, found_for, found_target, may_receive, named_target, target_of}
+use Rattle.run_model.specs.Calls.{GoesOutside, IsStuck, found_for, found_target, may_receive, named_target, target_of}
 use Rattle.run_model.specs.Soundness.{FitsTarget}
 use Rattle.run_model.proofs.Slots.{nearest_below}
 

@@ -13,7 +13,7 @@ use Rattle.app_model.specs.Reach.{Assigns}
 use Rattle.app_model.specs.Targets.{method_no}
 use Rattle.flow_model.specs.Subject.{is_open}
 use Rattle.run_model.specs.Heaps.{Value, Zero, Nonzero, Object, LockRef, Heap, cell, cell_value, held_value, is_lock, lock_at, status}
-use Rattle.run_model.specs.Machine.{Callback, Frame, State, Idle, Running, AtEnd, Over, Reason, Uncaught, Stuck, Escape}
+use Rattle.run_model.specs.Frames.{Callback, Frame, State, Idle, Running, AtEnd, Over, Reason, Uncaught, Stuck, Escape}
 
 -- what holds of each member of a list
 abbrev pub Each : {A : Type 0} → (A → Type 0) → List A → Type 0

@@ -7,7 +7,8 @@ use Rattle.app_model.specs.Subject.{SubjectParts, answers_at}
 use Rattle.app_model.specs.CallGraph.{TargetParts}
 use Rattle.app_model.specs.Targets.{method_no}
 use Rattle.run_model.specs.Heaps.{Heap, lock_at, status}
-use Rattle.run_model.specs.Machine.{Callback, State, Idle, Running, AtEnd, Over, Target, Enters, GoesOutside, IsStuck}
+use Rattle.run_model.specs.Frames.{Callback, State, Idle, Running, AtEnd, Over}
+use Rattle.run_model.specs.Calls.{Target, Enters, GoesOutside, IsStuck}
 use Rattle.run_model.specs.Relation.{NoEscape}
 
 -- at an exit of a component that answers for l, no lock of l is held

@@ -18,7 +18,8 @@ use Rattle.app_model.specs.Names.{power_manager_name, string_name, wake_lock_nam
 use Rattle.app_model.specs.Parts.{AppParts, ClassParts, ProtoParts}
 use Rattle.app_model.specs.Subject.{SubjectParts, slot_count}
 use Rattle.run_model.specs.Heaps.{Value, Zero, Nonzero, Object, Heap, status}
-use Rattle.run_model.specs.Machine.{Frame, Reason, State, Idle, Running, AtEnd, Over, Uncaught, Stuck, Escape, options_of, run_of}
+use Rattle.run_model.specs.Frames.{Frame, Reason, State, Idle, Running, AtEnd, Over, Uncaught, Stuck, Escape}
+use Rattle.run_model.specs.Machine.{options_of, run_of}
 
 -- ---- what is seen of a state: the components' states or the instruction and its registers, and the lock fields' statuses
 pub data Sight : Type 0 where
