@@ -1,5 +1,5 @@
 -- Small applications, and what is seen of runs of them.
-use Rattle.std.specs.Prelude.{ℕ, ◌≡◌, pos, true, List, [], ◌∷◌, ◌++◌, length, map, replicate, Option, Some, None, codes}
+use Rattle.std.specs.Prelude.{ℕ, ◌≡◌, pos, true, List, [], ◌∷◌, ◌++◌, length, map, replicate, Option, Some, None, codes, option_map, Option}
 use Rattle.std.specs.List.{range_with_len}
 use Rattle.ns_base.specs.declared.rows.ComponentNo.{ComponentNo}
 use Rattle.ns_base.specs.declared.rows.MethodNo.{MethodNo}
@@ -19,7 +19,7 @@ use Rattle.app_model.specs.Parts.{AppParts, ClassParts, ProtoParts}
 use Rattle.app_model.specs.Subject.{SubjectParts, slot_count}
 use Rattle.run_model.specs.Heaps.{Value, Zero, Nonzero, Object, Heap, status}
 use Rattle.run_model.specs.Frames.{Frame, Reason, State, Idle, Running, AtEnd, Over, Uncaught, Stuck, Escape}
-use Rattle.run_model.specs.Machine.{options_of, run_of}
+use Rattle.run_model.specs.Machine.{count_of, option_at, options_of, run_of, start_of}
 
 -- ---- what is seen of a state: the components' states or the instruction and its registers, and the lock fields' statuses
 pub data Sight : Type 0 where
@@ -389,3 +389,20 @@ resting = subject leaking_app [] (None ∷ [])
 
 abbrev pub RestsAlone : Type 0
 RestsAlone = (next_seen resting [] ∷ next_seen resting (0 ∷ 7 ∷ []) ∷ []) ≡ (Rests [] (0 ∷ []) ∷ []) ∷ (Rests [] (0 ∷ []) ∷ []) ∷ []
+
+-- ---- the starts of callbacks by number: 13 values of each argument of the receiver, and one start of the service
+unfoldable pub starts_counted : SubjectParts → ℕ
+starts_counted x = count_of x (start_of x)
+
+unfoldable pub start_seen : SubjectParts → ℕ → Option Sight
+start_seen x k = option_map (sight_of x) (option_at x (start_of x) k)
+
+abbrev pub StartsCounted : Type 0
+StartsCounted = starts_counted pair ≡ 170
+
+-- the first argument varies slowest: number 15 is 1 and 2 in digits of 13
+abbrev pub FirstSlowest : Type 0
+FirstSlowest = start_seen pair 15 ≡ Some (Stands 0 (Zero ∷ Zero ∷ Object (Some 0) ∷ Object (Some 0) ∷ Object (Some 1) ∷ Zero ∷ []) (0 ∷ []))
+
+abbrev pub NoSuchStart : Type 0
+NoSuchStart = start_seen pair 170 ≡ None

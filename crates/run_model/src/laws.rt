@@ -23,7 +23,7 @@ ghost use Rattle.run_model.specs.Choices.{listed};
 ghost use Rattle.run_model.specs.Relation.{Each, IsHeap, IsIdle, IsInside, IsSound};
 ghost use Rattle.run_model.specs.Soundness.{FitsTarget, HoldsLock, LeavesNoneHeld, StandsWell};
 ghost use Rattle.run_model.specs.Tagged.{IsTagged};
-ghost use Rattle.run_model.specs.Worked.{CallsSuper, ClearsOwned, CopyDown, CopyUp, DivisionByTwo, DivisionThrows, KeepsStatic, LeadsOutside, LeavesFree, LeavesHeld, LockEscapes, LosesLock, MakingThrows, MonitorOnNull, MonitorOnObject, NoReceiver, NonzeroBranches, NullReceiver, OutsideEnds, PicksOverride, ReceiverFirst, ReleaseThrows, RestsAlone, ServiceFirst, StaticCall, StaticReturn, StoreToNull, StoreToObject, SwitchGoes, ThrowsThrough, WideRead, ZeroBranches};
+ghost use Rattle.run_model.specs.Worked.{CallsSuper, ClearsOwned, CopyDown, CopyUp, DivisionByTwo, DivisionThrows, FirstSlowest, KeepsStatic, LeadsOutside, LeavesFree, LeavesHeld, LockEscapes, LosesLock, MakingThrows, MonitorOnNull, MonitorOnObject, NoReceiver, NoSuchStart, NonzeroBranches, NullReceiver, OutsideEnds, PicksOverride, ReceiverFirst, ReleaseThrows, RestsAlone, ServiceFirst, StartsCounted, StaticCall, StaticReturn, StoreToNull, StoreToObject, SwitchGoes, ThrowsThrough, WideRead, ZeroBranches};
 
 /// Soundness: what a closed set of facts that meets the policy says of every run. The relation between the set and the
 /// state in which a run stands needs no policy.
@@ -93,4 +93,7 @@ pub fn worked_runs()
     ensures no_receiver { NoReceiver }
     ensures null_receiver { NullReceiver }
     ensures rest { RestsAlone }
+    ensures counted { StartsCounted }
+    ensures first_slowest { FirstSlowest }
+    ensures no_such_start { NoSuchStart }
 {}

@@ -96,3 +96,12 @@ returns-clause-null_receiver c = call_runs.null_receiver
 
 pub returns-clause-rest : goal.returns-clause-rest
 returns-clause-rest c = call_runs.rest
+
+pub returns-clause-counted : goal.returns-clause-counted
+returns-clause-counted c = call_runs.counted
+
+pub returns-clause-first_slowest : goal.returns-clause-first_slowest
+returns-clause-first_slowest c = call_runs.first_slowest
+
+pub returns-clause-no_such_start : goal.returns-clause-no_such_start
+returns-clause-no_such_start c = call_runs.no_such_start
