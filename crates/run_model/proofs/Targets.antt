@@ -1,14 +1,12 @@
 -- Where the machine's calls lead, the targets of the call are.
 use Rattle.std.proofs.Common.{◌≡◌, ℕ, zero, suc, ◌+◌, ◌<◌, ◌≤◌, ◌==◌, Bool, true, false, if◌then◌else◌, List, [], ◌∷◌, length, map, Option, Some, None, slice_get, get_or, refl, sym, ap, ap₂, ◌∙◌, arith, subst, subst₂, ⊎_elim}
-use Rattle.std.specs.Prelude.{nat_lt, ◌||◌, ◌&&◌, not, filter, is_none, Contains}
+use Rattle.std.specs.Prelude.{nat_lt, ◌||◌, not, filter, is_none, Contains}
 use Rattle.std.specs.List.{list_any, position_or_len, range_with_len}
-use Rattle.std.proofs.lemmas.Bool.{and_parts, or_cases, or_right, cases_eq, cases_lt, eq-eqb, eqb-true, false≢true}
+use Rattle.std.proofs.lemmas.Bool.{and_parts, or_cases, or_right, cases_eq, eq-eqb, eqb-true, false≢true}
 use Rattle.std.proofs.lemmas.Bool.Decides.{nat_tests}
-use Rattle.std.proofs.lemmas.List.{get_or_past}
-use Rattle.std.proofs.lemmas.List.FromFn.{get_or-map-range_with_len, length-map-range_with_len}
 use Rattle.std.proofs.lemmas.List.Sums.{fails_before_first}
 use Rattle.std.proofs.lemmas.Option.{slice_get-get_or}
-use Rattle.std.proofs.lemmas.List.Folds.{list_any-append, Any-from_list_any}
+use Rattle.std.proofs.lemmas.List.Folds.{list_any-append}
 use Rattle.std.proofs.lemmas.List.Quantifiers.{position-Some}
 use Rattle.ns_base.specs.declared.rows.TypeNo.{TypeNo}
 use Rattle.dalvik.specs.declared.opcode.TheConstants.{IF_EQZ, IF_NEZ, MONITOR_ENTER, MOVE_RESULT_WIDE}
@@ -20,7 +18,7 @@ use Rattle.app_model.specs.declared.calls.By.TheVariants.{Virtual, Super, Direct
 use Rattle.app_model.specs.declared.lock_use.LockUse.{LockUse}
 use Rattle.app_model.specs.declared.rows.Named.{Named}
 use Rattle.app_model.specs.CallGraph.{TargetParts, targets_at}
-use Rattle.app_model.specs.Hierarchy.{above_type, class_of_type, has_parent, has_unknown_above, is_marked, is_sub, line, line_of, lookup_of, marks_of, may_be_sub, method_in, nearest, round, rounds}
+use Rattle.app_model.specs.Hierarchy.{class_of_type, has_unknown_above, is_sub, line, line_of, lookup_of, may_be_sub, method_in, nearest}
 use Rattle.app_model.specs.LockUse.{invoke_of, lock_use_at, use_by, use_of}
 use Rattle.app_model.specs.Parts.{AppParts, ClassParts}
 use Rattle.app_model.specs.Slots.{slot_at}
@@ -37,15 +35,9 @@ use Rattle.act_model.specs.Acts.{act_at, act_by, act_of, read_act, write_act}
 use Rattle.flow_model.specs.TagFlow.{is_call}
 use Rattle.run_model.specs.Calls.{GoesOutside, IsStuck, found_for, found_target, may_receive, named_target, target_of}
 use Rattle.run_model.specs.Soundness.{FitsTarget}
+use Rattle.app_model.specs.Ancestors.{IsAncestor, its_parent, further}
+use Rattle.app_model.proofs.HierarchyLaws.{stands_above}
 use Rattle.run_model.proofs.Slots.{nearest_below}
-
-marked_in : (n : ℕ) (test : ℕ → Bool) (u : ℕ) → u < n → is_marked (marks_of n test) u ≡ test u
-marked_in n test u lt = get_or-map-range_with_len test 0 n u u false lt (omega arith)
-
-marked_test : (n : ℕ) (test : ℕ → Bool) (u : ℕ) → is_marked (marks_of n test) u ≡ true → test u ≡ true
-marked_test n test u e =
-    ⊎_elim (λ lt. sym (marked_in n test u lt) ∙ e)
-    (λ past. absurd (let len = length-map-range_with_len test 0 n in let off = get_or_past (marks_of n test) u false (omega arith) in false≢true (sym off ∙ e))) (cases_lt u n)
 
 -- ---- members
 any_there : {X : Type 0} (p : X → Bool) (xs : List X) (k : ℕ) (x : X) → slice_get xs k ≡ Some x → p x ≡ true → list_any p xs ≡ true
@@ -99,27 +91,15 @@ none_named classes t none k d below = by (nat_lt (position_or_len (is_named t) c
 
 -- no type stands above one of which the files say nothing
 module _ (app : AppParts) (t : ℕ) (none : class_of_type app.classes t ≡ None) where
-  abbrev OnlyIts : List Bool → Type 0
-  OnlyIts marks = (u : ℕ) → is_marked marks u ≡ true → t ≡ u
+  not_named : (class : ClassParts) → Contains app.classes class → class.name.0 ≡ t → ⊥
+  not_named class c is = false≢true (sym (subst (λ (d : ClassParts). is_named t d ≡ false) c.2 (none_named app.classes t none c.0 class c.1)) ∙ eq-eqb class.name.0 t is)
 
-  no_class_marked : (marks : List Bool) → OnlyIts marks → (u : ℕ) → list_any (λ (class : ClassParts). is_marked marks class.name.0 && has_parent class u) app.classes ≡ true → ⊥
-  no_class_marked marks only u found =
-      let a = Any-from_list_any _ app.classes found in
-      let parts = and_parts (is_marked marks a.1.name.0) (has_parent a.1 u) a.4 in
-      let fails = none_named app.classes t none a.0 a.1 a.2 in
-      false≢true (sym (subst (λ (class : ClassParts). is_named t class ≡ false) a.3 fails) ∙ eq-eqb a.1.name.0 t (sym (only a.1.name.0 parts.0)))
-
-  round_only : (marks : List Bool) → OnlyIts marks → OnlyIts (marks_of (length app.types) (round app.classes marks))
-  round_only marks only u marked = ⊎_elim (only u) (λ found. absurd (no_class_marked marks only u found)) (or_cases (is_marked marks u) _ (marked_test (length app.types) (round app.classes marks) u marked))
-
-  rounds_only : (count : ℕ) (marks : List Bool) → OnlyIts marks → OnlyIts (rounds app.classes (length app.types) count marks)
-  rounds_only zero marks only = only
-  rounds_only (suc count) marks only = rounds_only count _ (round_only marks only)
+  nothing_above : (c : ℕ) → IsAncestor app.classes t c → ⊥
+  nothing_above c (its_parent class there is up) = not_named class there is
+  nothing_above c (further class there is up rest) = not_named class there is
 
   only_itself : (c : ℕ) → is_sub app t c ≡ true → t ≡ c
-  unfolding is_sub above_type
-  only_itself c is =
-      ⊎_elim (eqb-true t c) (rounds_only (length app.types) _ (λ u marked. sym (eqb-true u t (marked_test (length app.types) (λ v. v == t) u marked))) c) (or_cases (t == c) _ is)
+  only_itself c is = ⊎_elim (λ same. same) (λ above. absurd (nothing_above c above)) (stands_above app t c is)
 
   -- and on an object of it no method is found
   none_found : (name proto : ℕ) → lookup_of app t name proto ≡ None
