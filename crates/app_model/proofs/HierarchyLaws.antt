@@ -139,6 +139,14 @@ module _ (classes : List ClassParts) (n : ℕ) where
           last class v (inl e) c q = its_parent class c (sym e) q
           last class v (inr k) c q = above class a class.name.0 v k refl c q
 
+-- a subtype by the marks is the type, or stands above it
+pub stands_above : (app : AppParts) (a b : ℕ) → is_sub app a b ≡ true → (a ≡ b) ⊎ IsAncestor app.classes a b
+unfolding is_sub above_type
+stands_above app a b e =
+    let count = length app.types in
+    ⊎_elim (λ f. inl (eqb-true a b f))
+    (sound app.classes count a count (marks_of count (λ u. eqb u a)) (λ u g. inl (sym (eqb-true u a (marked_test count (λ u. eqb u a) u g)))) b) (or_cases _ _ e)
+
 module _ (app : AppParts) (ranges : AreInRange app) where
   abbrev count : ℕ
   count = length app.types
@@ -173,11 +181,8 @@ module _ (app : AppParts) (ranges : AreInRange app) where
 
   pub subtypes_told : TellsSubtypes app
   unfolding is_sub above_type
-  subtypes_told a b = (forth, back)
+  subtypes_told a b = (stands_above app a b, back)
     where
-      forth : (eqb a b || is_marked (rounds app.classes count count (first a)) b) ≡ true → (a ≡ b) ⊎ IsAncestor app.classes a b
-      forth e = ⊎_elim (λ f. inl (eqb-true a b f)) (λ f. sound app.classes count a count (first a) (λ u g. inl (sym (eqb-true u a (marked_test count (λ u. eqb u a) u g)))) b f) (or_cases _ _ e)
-
       back : (a ≡ b) ⊎ IsAncestor app.classes a b → (eqb a b || is_marked (rounds app.classes count count (first a)) b) ≡ true
       back (inl e) = rw (eq-eqb a b e) refl
       back (inr k) =

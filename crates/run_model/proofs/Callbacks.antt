@@ -15,16 +15,20 @@ use Rattle.flow_model.specs.Status.{reset}
 use Rattle.app_model.specs.Subject.{SubjectParts, answers_at, row_at, slot_count}
 use Rattle.flow_model.specs.Subject.{status_masks}
 use Rattle.run_model.specs.Heaps.{Value, Heap, status, with_cleared, cleared_cells, is_lost, counter_at, cell, status_of}
-use Rattle.run_model.specs.Machine.{Callback, Running, edge_starts, starts, begins, entered_frame, entries_of, this_of}
-use Rattle.run_model.specs.Relation.{AreTagged, AreViews, Each, IsCallback, IsEnded, IsHeap, IsIdle, IsInside}
+use Rattle.run_model.specs.Frames.{Callback, Running}
+use Rattle.run_model.specs.Calls.{entered_frame, entry_values}
+use Rattle.run_model.specs.Machine.{edge_starts, component_starts, starts, begins, method_starts, parameter_words, this_of}
+use Rattle.run_model.specs.Choices.{Empty, chosen}
+use Rattle.app_model.specs.declared.rows.MethodRow.{MethodRow}
+use Rattle.run_model.specs.Relation.{AreTagged, AreViews, IsCallback, IsEnded, IsHeap, IsIdle, IsInside}
 use Rattle.run_model.specs.Soundness.{ExitsWell}
-use Rattle.run_model.specs.Tagged.{IsEntered, IsTagged}
+use Rattle.run_model.specs.Tagged.{IsTagged}
 use Rattle.flow_model.proofs.TestLaws.{none_some}
-use Rattle.run_model.proofs.Members.{each_append, each_if, each_map}
+use Rattle.run_model.proofs.Members.{EachWay, each_map, each_then, way_if}
 use Rattle.run_model.proofs.Rows.{reset_ok}
 use Rattle.run_model.proofs.Heaps.{emptied_status, kept_status, held_above, status_is, cleared_cell, uncleared_cell, cleared_heap}
 use Rattle.run_model.proofs.Registers.{tagged_under}
-use Rattle.run_model.proofs.Entries.{entries_ok}
+use Rattle.run_model.proofs.Entries.{AreFree, entry_ok, no_entry_ok, parameters_free}
 
 -- an edge is of a component that is there
 component_in : (list : List ComponentParts) (c e : ℕ) (edge : Edge) → edge_of (slice_get list c) e ≡ Some edge → c < length list
@@ -65,7 +69,6 @@ module _ (x : SubjectParts) (own : ℕ) (set : Set) (tg : IsTagged x) (cl : IsCl
       → IsInside x own set (Running (record { states = states; component = c; edge = e }) (with_cleared h (clears x c edge)) (entered_frame m values ∷ []))
   begin_one c e edge m there from method values tagged =
       let lt = component_there x.list c e edge there in
-      let is_method : IsEntered x m = record { component = c; callback = edge.callback; is = method } in
       let view = idle.views.each c lt in
       let entry = cl.by _ _ (inr (V3 e there from method)) (view, tt) in
       let now = entered_status x own c edge (slot_count x) h idle.heap in
@@ -80,14 +83,14 @@ module _ (x : SubjectParts) (own : ℕ) (set : Set) (tg : IsTagged x) (cl : IsCl
           e = entered x own c edge (status h own);
           lo = length h.locks;
           from = omega arith;
-          entered = is_method;
+          reached = tg.callbacks c edge.callback m method;
           at = subst (λ s. set (At m (entered x own c edge (status h own)) 0 s) ≡ true) (sym now) entry;
-          registers = tagged_under _ values (length h.locks) (length h.locks) (with_cleared h (clears x c edge)) tagged (row_at x m 0) (tg.entries m is_method);
+          registers = tagged_under _ values (length h.locks) (length h.locks) (with_cleared h (clears x c edge)) tagged (row_at x m 0) (tg.entries c edge.callback m method);
           below = (refl, refl);
         };
       }
 
-  begins_ok : (c e : ℕ) (edge : Edge) → edge_at x.list c e ≡ Some edge → edge.from ≡ slice_index states c → (o : Option ℕ) → callback_at x.list c edge.callback ≡ o → Each (IsInside x own set) (begins x states h c e edge o)
+  begins_ok : (c e : ℕ) (edge : Edge) → edge_at x.list c e ≡ Some edge → edge.from ≡ slice_index states c → (o : Option ℕ) → callback_at x.list c edge.callback ≡ o → EachWay (IsInside x own set) (begins x states h c e edge o)
   begins_ok c e edge there from None none =
       let lt = component_there x.list c e edge there in (
         record {
@@ -105,32 +108,39 @@ module _ (x : SubjectParts) (own : ℕ) (set : Set) (tg : IsTagged x) (cl : IsCl
         },
         tt,
       )
-  begins_ok c e edge there from (Some m) method =
-      each_map (λ values. AreTagged (callback_row x.app (slice_get x.app.methods m)) values (length h.locks) (length h.locks) (with_cleared h (clears x c edge))) (IsInside x own set) _
-      (begin_one c e edge m there from method) (entries_of x.app (this_of x.app (slice_get x.list c)) (slice_get x.app.methods m))
-      (entries_ok (length h.locks) (length h.locks) (with_cleared h (clears x c edge)) x.app (slice_get x.list c) (slice_get x.app.methods m))
+  begins_ok c e edge there from (Some m) method = by (slice_get x.app.methods m) refl
+    where
+      by : (o : Option MethodRow) → slice_get x.app.methods m ≡ o
+          → EachWay (IsInside x own set) (method_starts x (record { states = states; component = c; edge = e }) (with_cleared h (clears x c edge)) m (this_of x.app (slice_get x.list c)) o)
+      by None is = (begin_one c e edge m there from method [] (rw is (no_entry_ok (length h.locks) (length h.locks) (with_cleared h (clears x c edge)) x.app)), tt)
+      by (Some row) is =
+          each_map (AreFree (length (parameter_words x.app (slice_get x.app.protos row.proto.0)))) (IsInside x own set) _
+          (λ words free. begin_one c e edge m there from method _
+          (subst (λ (o : Option MethodRow). AreTagged (callback_row x.app o) (entry_values (Some row) (this_of x.app (slice_get x.list c) ∷ words)) (length h.locks) (length h.locks) (with_cleared h (clears x c edge))) (sym is)
+          (entry_ok (length h.locks) (length h.locks) (with_cleared h (clears x c edge)) x.app (slice_get x.list c) row words free)))
+          (chosen (parameter_words x.app (slice_get x.app.protos row.proto.0))) (parameters_free x.app (slice_get x.app.protos row.proto.0))
 
-  edge_starts_ok : (c e : ℕ) (edges : List Edge) → ((i : ℕ) (edge : Edge) → slice_get edges i ≡ Some edge → edge_at x.list c (e + i) ≡ Some edge) → Each (IsInside x own set) (edge_starts x states h c e edges)
+  edge_starts_ok : (c e : ℕ) (edges : List Edge) → ((i : ℕ) (edge : Edge) → slice_get edges i ≡ Some edge → edge_at x.list c (e + i) ≡ Some edge) → EachWay (IsInside x own set) (edge_starts x states h c e edges)
   edge_starts_ok c e [] at = tt
   edge_starts_ok c e (edge ∷ edges) at =
       let here : edge_at x.list c e ≡ Some edge = ap (edge_at x.list c) (let z : e ≡ e + 0 = omega arith in z) ∙ at 0 edge refl in
       let more : (i : ℕ) (y : Edge) → slice_get edges i ≡ Some y → edge_at x.list c (suc e + i) ≡ Some y = λ i y is. ap (edge_at x.list c) (let z : suc e + i ≡ e + suc i = omega arith in z) ∙ at (suc i) y is in
-      each_append (IsInside x own set) (if edge.from == slice_index states c then begins x states h c e edge (callback_at x.list c edge.callback) else []) _
-      (each_if (IsInside x own set) (edge.from == slice_index states c) _ [] (λ same. begins_ok c e edge here (eqb-true edge.from (slice_index states c) same) (callback_at x.list c edge.callback) refl) (λ _. tt))
+      each_then (IsInside x own set) (if edge.from == slice_index states c then begins x states h c e edge (callback_at x.list c edge.callback) else Empty) (edge_starts x states h c (suc e) edges)
+      (way_if (IsInside x own set) (edge.from == slice_index states c) (begins x states h c e edge (callback_at x.list c edge.callback)) Empty (λ same. begins_ok c e edge here (eqb-true edge.from (slice_index states c) same) (callback_at x.list c edge.callback) refl) (λ _. tt))
       (edge_starts_ok c (suc e) edges more)
 
-  starts_ok : (c : ℕ) (list : List ComponentParts) → ((i : ℕ) → slice_get list i ≡ slice_get x.list (c + i)) → Each (IsInside x own set) (starts x states h c list)
+  component_starts_ok : (c : ℕ) (list : List ComponentParts) → ((i : ℕ) → slice_get list i ≡ slice_get x.list (c + i)) → EachWay (IsInside x own set) (component_starts x states h c list)
   unfolding edge_at
-  starts_ok c [] at = tt
-  starts_ok c (component ∷ list) at =
+  component_starts_ok c [] at = tt
+  component_starts_ok c (component ∷ list) at =
       let here : Some component ≡ slice_get x.list c = at 0 ∙ ap (slice_get x.list) (let z : c + 0 ≡ c = omega arith in z) in
       let more : (i : ℕ) → slice_get list i ≡ slice_get x.list (suc c + i) = λ i. at (suc i) ∙ ap (slice_get x.list) (let z : c + suc i ≡ suc c + i = omega arith in z) in
-      each_append (IsInside x own set) (edge_starts x states h c 0 (edges_of component.kind)) _
+      each_then (IsInside x own set) (edge_starts x states h c 0 (edges_of component.kind)) (component_starts x states h (suc c) list)
       (edge_starts_ok c 0 (edges_of component.kind) (λ i edge is. ap (λ o. edge_of o (0 + i)) (sym here) ∙ ap (slice_get (edges_of component.kind)) (let z : 0 + i ≡ i = omega arith in z) ∙ is))
-      (starts_ok (suc c) list more)
+      (component_starts_ok (suc c) list more)
 
-  pub idle_ok : Each (IsInside x own set) (starts x states h 0 x.list)
-  idle_ok = starts_ok 0 x.list (λ i. ap (slice_get x.list) (let z : i ≡ 0 + i = omega arith in z))
+  pub idle_ok : EachWay (IsInside x own set) (starts x states h)
+  idle_ok = component_starts_ok 0 x.list (λ i. ap (slice_get x.list) (let z : i ≡ 0 + i = omega arith in z))
 
 -- ---- the end of a callback
 module _ (x : SubjectParts) (own : ℕ) (set : Set) where

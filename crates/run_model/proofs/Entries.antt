@@ -20,7 +20,10 @@ use Rattle.act_model.specs.declared.act.Gives.{Gives}
 use Rattle.act_model.specs.declared.act.Gives.TheVariants as gives
 use Rattle.act_model.specs.Entries.{callback_row, callback_words, entry_row, fitted}
 use Rattle.run_model.specs.Heaps.{Value, Zero, Object, Heap, is_lock}
-use Rattle.run_model.specs.Machine.{free_numbers, free_references, free_objects, answers_of, argument_words, parameter_words, chosen, this_of, entries_of, written_values}
+use Rattle.run_model.specs.Frames.{free_numbers, free_references, free_objects, answers_of, written_values}
+use Rattle.run_model.specs.Calls.{entry_values}
+use Rattle.run_model.specs.Machine.{argument_words, parameter_words, this_of}
+use Rattle.run_model.specs.Choices.{chosen}
 use Rattle.run_model.specs.Relation.{AreTagged, Each, IsSolid, Means}
 use Rattle.run_model.proofs.Members.{each_append, each_map, each_flat_map, each_all}
 
@@ -93,9 +96,9 @@ parameters_counted app None = refl
 parameters_counted app (Some proto) = params_counted app proto.params
 
 -- so many values, none of them a lock
-record AreFree (n : ℕ) (values : List Value) : Type 0 where
-  count : length values ≡ n
-  each : Each NoLock values
+pub record AreFree (n : ℕ) (values : List Value) : Type 0 where
+  pub count : length values ≡ n
+  pub each : Each NoLock values
 
 chosen_free : (words : List (List Value)) → Each (Each NoLock) words → Each (AreFree (length words)) (chosen words)
 chosen_free [] ok = (record { count = refl; each = tt }, tt)
@@ -161,12 +164,15 @@ module _ (lo hi : ℕ) (h : Heap) where
       (meant_append (replicate (registers - ins) tag.Zero ++ fitted tag.Zero ins ts) (replicate (registers - ins) Zero ++ fitted Zero ins vs) (tag.Zero ∷ []) (Zero ∷ [])
       (meant_append (replicate (registers - ins) tag.Zero) (replicate (registers - ins) Zero) (fitted tag.Zero ins ts) (fitted Zero ins vs) (meant_zeros (registers - ins)) (meant_fitted ins ts vs a)) (refl, tt))
 
-  pub entries_ok : (app : AppParts) (component : Option ComponentParts) (method : Option MethodRow) → Each (λ values. AreTagged (callback_row app method) values lo hi h) (entries_of app (this_of app component) method)
-  entries_ok app component None = (meant_tagged [] [] tt, tt)
-  entries_ok app component (Some method) =
-      let words = parameter_words app (slice_get app.protos method.proto.0) in
-      let counted = parameters_counted app (slice_get app.protos method.proto.0) in
-      each_map (AreFree (length words)) (λ values. AreTagged (callback_row app (Some method)) values lo hi h) _
-      (λ vs free. meant_entry method.registers method.ins (callback_words app method) (this_of app component ∷ vs)
-      (this_solid app component, free_meant (params_len app (slice_get app.protos method.proto.0)) vs (free.count ∙ counted) free.each))
-      (chosen words) (chosen_free words (parameters_no_lock app (slice_get app.protos method.proto.0)))
+  -- the registers with which a method begins as a callback, by the words that were chosen
+  pub no_entry_ok : (app : AppParts) → AreTagged (callback_row app None) [] lo hi h
+  no_entry_ok app = meant_tagged [] [] tt
+
+  pub entry_ok : (app : AppParts) (component : Option ComponentParts) (method : MethodRow) (words : List Value) → AreFree (length (parameter_words app (slice_get app.protos method.proto.0))) words
+      → AreTagged (callback_row app (Some method)) (entry_values (Some method) (this_of app component ∷ words)) lo hi h
+  entry_ok app component method words free =
+      meant_entry method.registers method.ins (callback_words app method) (this_of app component ∷ words)
+      (this_solid app component, free_meant (params_len app (slice_get app.protos method.proto.0)) words (free.count ∙ parameters_counted app (slice_get app.protos method.proto.0)) free.each)
+
+pub parameters_free : (app : AppParts) (proto : Option ProtoParts) → Each (AreFree (length (parameter_words app proto))) (chosen (parameter_words app proto))
+parameters_free app proto = chosen_free (parameter_words app proto) (parameters_no_lock app proto)

@@ -1,4 +1,5 @@
 pub mod Members
+pub mod Choices
 pub mod Rows
 pub mod Heaps
 pub mod Meanings
@@ -6,6 +7,7 @@ pub mod Registers
 pub mod Entries
 pub mod Callbacks
 pub mod Slots
+pub mod Targets
 pub mod Steps
 pub mod Masks
 pub mod LockCalls

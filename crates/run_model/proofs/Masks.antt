@@ -8,7 +8,7 @@ use Rattle.app_model.specs.declared.tag.Tag.TheVariants as tag
 use Rattle.app_model.specs.declared.lock_use.LockUse.{LockUse}
 use Rattle.app_model.specs.declared.lock_use.LockUse.TheVariants.{Plain, Make, Acquire, Release, IsHeld, Mode, Wrong}
 use Rattle.app_model.specs.Masks.{in_mask}
-use Rattle.flow_model.specs.Passes.{only_if, by_branch, call_throws_with, fails_null, lock_call_passes, lock_call_throws, nullness, passes_null, test_passes, throws_outside}
+use Rattle.flow_model.specs.Passes.{only_if, by_branch, call_throws_with, fails_null, lock_call_passes, lock_call_throws, nullness, passes_null, passes_outside, test_passes, throws_outside}
 use Rattle.flow_model.specs.declared.passes.Nullness.{Nullness}
 use Rattle.flow_model.specs.declared.passes.Nullness.TheVariants.{Own, Unknown}
 use Rattle.flow_model.specs.Status.{only, acquire_throws, release_throws, call_throws, mode_throws, mode_passes, zero_if_null, nonzero_if_null, zero_if_held, nonzero_if_held}
@@ -83,9 +83,9 @@ module _ (own lo hi : ℕ) (h : Heap) where
   passes_full (tag.New z) v full ok = only_status h own
   passes_full tag.Mixed v full ok = only_status h own
 
-  -- a call on null, and on an object, that leads outside
-  outside_throws_zero : (t : Tag) → Means t Zero lo hi h → in_mask (throws_outside true (nullness own t) (status h own)) (status h own) ≡ true
-  outside_throws_zero t ok = IsIn-or_left (fails_null (nullness own t) (status h own)) (passes_null (nullness own t) (status h own)) (status h own) (fails_zero t ok)
+  -- a call on null, and on an object where it leads outside
+  outside_throws_zero : (out : Bool) (t : Tag) → Means t Zero lo hi h → in_mask (throws_outside out (nullness own t) (status h own)) (status h own) ≡ true
+  outside_throws_zero out t ok = IsIn-or_left (fails_null (nullness own t) (status h own)) (passes_outside out (nullness own t) (status h own)) (status h own) (fails_zero t ok)
 
   pub outside_throws_full : (t : Tag) (v : Value) → is_null v ≡ false → Means t v lo hi h → in_mask (throws_outside true (nullness own t) (status h own)) (status h own) ≡ true
   outside_throws_full t v full ok = IsIn-or_right (fails_null (nullness own t) (status h own)) (passes_null (nullness own t) (status h own)) (status h own) (passes_full t v full ok)
@@ -141,14 +141,14 @@ module _ (own lo hi : ℕ) (h : Heap) where
   mode_none tag.Mixed v ok b = call_none b
 
   -- a call on null throws
-  pub zero_throws : (usage : LockUse) (receiver argument : Tag) → Means receiver Zero lo hi h → (usage ≡ Mode → (v : Value) × Means argument v lo hi h) → in_mask (call_throws_with usage true (nullness own receiver) argument (status h own)) (status h own) ≡ true
-  zero_throws Plain r a ok has = outside_throws_zero r ok
-  zero_throws Make r a ok has = outside_throws_zero r ok
-  zero_throws Wrong r a ok has = outside_throws_zero r ok
-  zero_throws Acquire r a ok has = lock_throws_zero acquire_throws acquire_none r ok
-  zero_throws Release r a ok has = lock_throws_zero release_throws release_none r ok
-  zero_throws IsHeld r a ok has = lock_throws_zero call_throws call_none r ok
-  zero_throws Mode r a ok has = let m = has refl in lock_throws_zero (mode_throws a) (mode_none a m.0 m.1) r ok
+  pub zero_throws : (out : Bool) (usage : LockUse) (receiver argument : Tag) → Means receiver Zero lo hi h → (usage ≡ Mode → (v : Value) × Means argument v lo hi h) → in_mask (call_throws_with usage out (nullness own receiver) argument (status h own)) (status h own) ≡ true
+  zero_throws out Plain r a ok has = outside_throws_zero out r ok
+  zero_throws out Make r a ok has = outside_throws_zero true r ok
+  zero_throws out Wrong r a ok has = outside_throws_zero true r ok
+  zero_throws out Acquire r a ok has = lock_throws_zero acquire_throws acquire_none r ok
+  zero_throws out Release r a ok has = lock_throws_zero release_throws release_none r ok
+  zero_throws out IsHeld r a ok has = lock_throws_zero call_throws call_none r ok
+  zero_throws out Mode r a ok has = let m = has refl in lock_throws_zero (mode_throws a) (mode_none a m.0 m.1) r ok
 
   -- setReferenceCounted by the tag of its argument
   pub mode_ok : (t : Tag) (v : Value) → Means t v lo hi h → (b : Bool) (n : ℕ) (c : Bool) → in_mask (mode_passes t (status_of b (some n c))) (status_of b (some n (not (is_null v)))) ≡ true

@@ -1,5 +1,7 @@
 -- What holds of each member of a list.
 use Rattle.std.proofs.Common.{◌≡◌, ℕ, zero, suc, Bool, true, false, if◌then◌else◌, List, [], ◌∷◌, ◌++◌, map, get_or, slice_get, Some, refl, flat_map}
+use Rattle.std.specs.Prelude.{◌==◌}
+use Rattle.run_model.specs.Choices.{Choices, Single, Then, by_each, counted, listed, or_single}
 use Rattle.run_model.specs.Relation.{Each}
 
 module _ {A : Type 0} (P : A → Type 0) where
@@ -29,10 +31,25 @@ module _ {A B : Type 0} (P : A → Type 0) (Q : B → Type 0) (f : A → B) wher
   each_map w [] h = tt
   each_map w (x ∷ xs) h = (w x h.0, each_map w xs h.1)
 
--- with the number of each member
-pub each_map_at : {A B : Type 0} (Q : B → Type 0) (f : A → B) (xs : List A) → ((k : ℕ) (x : A) → slice_get xs k ≡ Some x → Q (f x)) → Each Q (map f xs)
-each_map_at Q f [] h = tt
-each_map_at Q f (x ∷ xs) h = (h 0 x refl, each_map_at Q f xs (λ k y is. h (suc k) y is))
+-- what holds of each of the choices
+abbrev pub EachWay : {A : Type 0} → (A → Type 0) → Choices A → Type 0
+EachWay P choices = Each P (listed choices)
+
+module _ {A : Type 0} (P : A → Type 0) where
+  pub each_then : (c d : Choices A) → EachWay P c → EachWay P d → EachWay P (Then c d)
+  each_then c d a b = each_append P (listed c) (listed d) a b
+
+  pub way_if : (b : Bool) (c d : Choices A) → (b ≡ true → EachWay P c) → (b ≡ false → EachWay P d) → EachWay P (if b then c else d)
+  way_if true c d f g = f refl
+  way_if false c d f g = g refl
+
+  pub each_or : (c : Choices A) (a : A) → EachWay P c → P a → EachWay P (or_single c a)
+  each_or c a ok other = way_if (counted c == 0) (Single a) c (λ _. (other, tt)) (λ _. ok)
+
+  -- with the number of each
+  pub each_by : (f : ℕ → A) (is : List ℕ) → ((k i : ℕ) → slice_get is k ≡ Some i → P (f i)) → EachWay P (by_each f is)
+  each_by f [] h = tt
+  each_by f (i ∷ is) h = (h 0 i refl, each_by f is (λ k j at. h (suc k) j at))
 
 pub each_flat_map : {A B : Type 0} (P : A → Type 0) (Q : B → Type 0) (f : A → List B) → ((x : A) → P x → Each Q (f x)) → (xs : List A) → Each P xs → Each Q (flat_map f xs)
 each_flat_map P Q f w [] h = tt

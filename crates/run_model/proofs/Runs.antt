@@ -8,13 +8,15 @@ use Rattle.flow_model.specs.Rules.{Between, Carries, Inner, Rules, V1}
 use Rattle.app_model.specs.Subject.{SubjectParts, slot_count}
 use Rattle.flow_model.specs.Subject.{status_masks}
 use Rattle.run_model.specs.Heaps.{Heap, cell, is_lost, lock_at, status}
-use Rattle.run_model.specs.Machine.{Callback, Frame, State, Idle, Running, AtEnd, Over, options_of, run_from, run_of, start_of, step}
+use Rattle.run_model.specs.Frames.{Callback, Frame, State, Idle, Running, AtEnd, Over, Stuck, here_of}
+use Rattle.run_model.specs.Machine.{act_options, options_of, starts, run_from, run_of, start_of, step}
+use Rattle.run_model.specs.Choices.{listed}
 use Rattle.run_model.specs.Relation.{Each, IsHeap, IsIdle, IsInside, IsSound}
 use Rattle.run_model.specs.Soundness.{LeavesNoneHeld, StandsWell}
 use Rattle.run_model.specs.Tagged.{IsTagged}
 use Rattle.run_model.proofs.Heaps.{held_exactly}
 use Rattle.std.proofs.lemmas.Bool.{false≢true}
-use Rattle.run_model.proofs.Members.{each_get, each_weaker}
+use Rattle.run_model.proofs.Members.{each_get, each_or, each_weaker}
 use Rattle.run_model.proofs.Callbacks.{end_views, exits_well, idle_ok}
 use Rattle.run_model.proofs.Instructions.{act_ok}
 
@@ -43,13 +45,14 @@ unfolding status is_lost
 empty_status n l = rw (empty_cell n l) refl
 
 -- ---- inside callbacks
-pub starts_law : (x : SubjectParts) (l : ℕ) (set : Set) → IsTagged x → IsClosed (Inner x l (status_masks x l)) set → (states : List ℕ) (h : Heap) → IsIdle x l set states h → Each (IsInside x l set) (options_of x (Idle states h))
+pub starts_law : (x : SubjectParts) (l : ℕ) (set : Set) → IsTagged x → IsClosed (Inner x l (status_masks x l)) set → (states : List ℕ) (h : Heap) → IsIdle x l set states h → Each (IsInside x l set) (listed (starts x states h))
 starts_law x l set tg cl states h idle = idle_ok x l set tg cl states h idle
 
 pub steps_law : (x : SubjectParts) (l : ℕ) (set : Set) → IsTagged x → IsClosed (Inner x l (status_masks x l)) set → (at : Callback) (h : Heap) (frames : List Frame) → IsInside x l set (Running at h frames) → Each (IsInside x l set) (options_of x (Running at h frames))
 steps_law x l set tg cl at h [] ok = absurd ok.stack
 steps_law x l set tg cl at h (f ∷ rest) ok =
-    act_ok x l set (record { tagged = tg; closed = cl; at = at; edge = ok.edge; root = ok.root; s0 = ok.s0; callback = ok.callback; method = ok.method }) h ok.heap f rest ok.stack (act_at x.app f.method f.index) refl
+    each_or (IsInside x l set) (act_options (here_of x at h f rest) (act_at x.app f.method f.index)) (Over Stuck)
+    (act_ok x l set (record { tagged = tg; closed = cl; at = at; edge = ok.edge; root = ok.root; s0 = ok.s0; callback = ok.callback; method = ok.method }) (record { h = h; ok = ok.heap; f = f; rest = rest; t = ok.stack }) (act_at x.app f.method f.index) refl) tt
 
 -- ---- all rules
 module _ (x : SubjectParts) (l : ℕ) (set : Set) (tg : IsTagged x) (cl : IsClosed (Rules x l) set) where
@@ -66,7 +69,8 @@ module _ (x : SubjectParts) (l : ℕ) (set : Set) (tg : IsTagged x) (cl : IsClos
   inside_sound (Over why) ok = ok
 
   options_ok : (s : State) → IsSound x l set s → Each (IsSound x l set) (options_of x s)
-  options_ok (Idle states h) ok = each_weaker (IsInside x l set) (IsSound x l set) inside_sound _ (starts_law x l set tg inner states h ok)
+  options_ok (Idle states h) ok =
+      each_or (IsSound x l set) (starts x states h) (Idle states h) (each_weaker (IsInside x l set) (IsSound x l set) inside_sound _ (starts_law x l set tg inner states h ok)) ok
   options_ok (Running at h frames) ok = each_weaker (IsInside x l set) (IsSound x l set) inside_sound _ (steps_law x l set tg inner at h frames ok)
   options_ok (AtEnd at h) ok = (record { views = ok.1; heap = ok.0.heap }, tt)
   options_ok (Over why) ok = (ok, tt)

@@ -20,7 +20,7 @@ use Rattle.act_model.specs.declared.act.Written.TheVariants as written
 use Rattle.act_model.specs.Acts.{act_at, act_by, act_of, read_act, write_act}
 
 -- ---- what an access names
-nearest_below : (found : ℕ → Option ℕ) (n l : ℕ) → ((c k : ℕ) → found c ≡ Some k → k < n) → (above : List ℕ) → nearest found above ≡ Some l → l < n
+pub nearest_below : (found : ℕ → Option ℕ) (n l : ℕ) → ((c k : ℕ) → found c ≡ Some k → k < n) → (above : List ℕ) → nearest found above ≡ Some l → l < n
 nearest_below found n l below [] is = cc
 nearest_below found n l below (c ∷ above) is = by (nearest_below found n l below above) (found c) refl is
   where

@@ -1,5 +1,8 @@
 pub mod Heaps
 pub mod States
+pub mod Choices
+pub mod Frames
+pub mod Calls
 pub mod Machine
 pub mod Tagged
 pub mod Relation

@@ -1,241 +1,88 @@
--- The modelled Android as a machine: its states, what may come next, and runs. It reads no tags of the subject.
---
--- A call of a method that the application declares goes outside as every other call does: no instruction enters a
--- method of the application yet.
-use Rattle.std.specs.Prelude.{ℕ, zero, suc, pred, ◌+◌, ◌%◌, Bool, true, false, not, ◌&&◌, ◌||◌, ◌==◌, nat_le, if◌then◌else◌, List, [], ◌∷◌, ◌++◌, map, length, replicate, Option, Some, None, slice_get, slice_index, slice_index_or, slice_set, flat_map, position, bytes_eq, codes}
-use Rattle.std.specs.List.{range_with_len}
+-- The modelled Android as a machine: what may come next in each state, and runs. It reads no tags of the subject.
+use Rattle.std.specs.Prelude.{ℕ, suc, ◌+◌, ◌%◌, Bool, true, false, ◌==◌, if◌then◌else◌, List, [], ◌∷◌, length, replicate, Option, Some, None, slice_get, slice_index, slice_index_or, slice_set, flat_map}
 use Rattle.ns_base.specs.declared.rows.LockNo.{LockNo}
 use Rattle.ns_base.specs.declared.rows.TypeNo.{TypeNo}
 use Rattle.dalvik.specs.declared.body.Place.{Place}
-use Rattle.dalvik.specs.declared.ins.Args.{Args}
-use Rattle.dalvik.specs.Calls.{args_len, arg_at, receiver_of, argument_of}
 use Rattle.dalvik.specs.Descriptors.{is_reference, words_of}
 use Rattle.app_model.specs.declared.component.Edge.{Edge}
 use Rattle.app_model.specs.declared.rows.MethodRow.{MethodRow}
-use Rattle.app_model.specs.declared.rows.Named.{Named}
-use Rattle.app_model.specs.declared.lock_use.LockUse.{LockUse}
-use Rattle.app_model.specs.declared.lock_use.LockUse.TheVariants.{Make}
-use Rattle.app_model.specs.Hierarchy.{may_be_sub}
 use Rattle.app_model.specs.Components.{ComponentParts, edges_of, edge_at, callback_at}
-use Rattle.app_model.specs.Masks.{any_below}
-use Rattle.app_model.specs.Names.{type_text, string_name}
+use Rattle.app_model.specs.Names.{type_text}
 use Rattle.app_model.specs.Parts.{AppParts, ClassParts, ProtoParts}
-use Rattle.app_model.specs.Sites.{site_at}
 use Rattle.app_model.specs.Subject.{SubjectParts, slot_count}
-use Rattle.app_model.specs.Words.{place_at, successor_at, leaves_at, named_at}
+use Rattle.app_model.specs.Words.{place_at}
 use Rattle.act_model.specs.declared.act.Act.{Act}
 use Rattle.act_model.specs.declared.act.Act.TheVariants.{Go, Test, Copy, TakeResult, Write, Fill, ReadSlot, WriteSlot, Give, Check, Throw, Return, Call}
-use Rattle.app_model.specs.declared.calls.By.{By}
-use Rattle.app_model.specs.declared.calls.By.TheVariants.{Virtual, Super, Direct, Static}
-use Rattle.act_model.specs.declared.act.Gives.{Gives}
-use Rattle.act_model.specs.declared.act.Gives.TheVariants as gives
-use Rattle.act_model.specs.declared.act.LockOp.{LockOp}
-use Rattle.act_model.specs.declared.act.LockOp.TheVariants.{Acquire, Release, IsHeld, Mode}
 use Rattle.act_model.specs.declared.act.Returned.{Returned}
 use Rattle.act_model.specs.declared.act.Returned.TheVariants as returned
-use Rattle.act_model.specs.declared.act.Throws.{Throws}
-use Rattle.act_model.specs.declared.act.Throws.TheVariants.{Never, ByChoice, WhereZero}
-use Rattle.act_model.specs.declared.act.Written.{Written}
-use Rattle.act_model.specs.declared.act.Written.TheVariants as written
-use Rattle.act_model.specs.Acts.{act_at, op_of}
+use Rattle.act_model.specs.Acts.{act_at}
 use Rattle.act_model.specs.Changes.{is_pair, put}
-use Rattle.act_model.specs.Entries.{entry_row}
 use Rattle.flow_model.specs.Rules.{clears}
-use Rattle.run_model.specs.Heaps.{Value, Zero, Nonzero, Object, LockRef, Heap, cell, cell_value, held_value, is_lock, is_null, is_owned, lock_at, with_new, with_count, with_mode, with_stored, with_null, with_cleared}
-
--- ---- states
--- a method that runs: the values of its registers, and of the result cell as the last one
-pub record Frame : Type 0 where
-  pub method : ℕ
-  pub index : ℕ
-  pub registers : List Value
-
--- the states of all components, and the callback that runs: an edge of a component
-pub record Callback : Type 0 where
-  pub states : List ℕ
-  pub component : ℕ
-  pub edge : ℕ
-
--- why a run is over: a throw left the first frame; a value came where Android has none such; a lock went where it is
--- not followed
-pub data Reason : Type 0 where
-  Uncaught : Reason
-  Stuck : Reason
-  Escape : Reason
-
-pub data State : Type 0 where
-  Idle : (states : List ℕ) (h : Heap) → State
-  -- the frame that runs comes first
-  Running : (callback : Callback) (h : Heap) (frames : List Frame) → State
-  -- the callback has returned, and its component is in the state after it
-  AtEnd : (callback : Callback) (h : Heap) → State
-  Over : (why : Reason) → State
-
--- ---- free values
-abbrev pub free_numbers : List Value
-free_numbers = Zero ∷ Nonzero ∷ []
-
--- an object of each type that the application names, and of one that it does not name
-abbrev pub free_objects : AppParts → List Value
-free_objects app = map (λ t. Object (Some t)) (range_with_len 0 (length app.types)) ++ Object None ∷ []
-
-abbrev pub free_references : AppParts → List Value
-free_references app = Zero ∷ free_objects app
-
--- what a call that goes outside may answer
-abbrev pub answers_of : AppParts → Gives → List Value
-answers_of app gives.Nothing = Zero ∷ []
-answers_of app gives.Number = free_numbers
-answers_of app gives.Object = free_references app
-
--- an object of the type of a descriptor, or of a type that the application does not name
-abbrev pub object_of : AppParts → List ℕ → Value
-object_of app descriptor = Object (position (λ text. bytes_eq text descriptor) app.types)
-
-abbrev pub class_name : List ℕ
-class_name = codes "Ljava/lang/Class;"
-
--- the values that may be written; of a pair those of each half
-abbrev pub written_values : AppParts → Written → List Value
-written_values app written.Zero = Zero ∷ []
-written_values app written.Nonzero = Nonzero ∷ []
-written_values app written.Number = free_numbers
-written_values app written.Reference = free_references app
-written_values app written.FreeObject = free_objects app
-written_values app written.Pair = free_numbers
-written_values app written.Text = object_of app string_name ∷ []
-written_values app written.ClassObject = object_of app class_name ∷ []
-written_values app (written.Typed kind) = Object (Some kind.0) ∷ []
-
--- ---- on and off an instruction
--- where the machine stands in a callback: its heap, the frame that runs, and the frames below that one
-pub record Here : Type 0 where
-  pub subject : SubjectParts
-  pub callback : Callback
-  pub heap : Heap
-  pub frame : Frame
-  pub rest : List Frame
-
-abbrev pub here_of : SubjectParts → Callback → Heap → Frame → List Frame → Here
-here_of x at h f rest = record { subject = x; callback = at; heap = h; frame = f; rest = rest }
-
-abbrev pub with_heap : Here → Heap → Here
-with_heap here h = here_of here.subject here.callback h here.frame here.rest
-
--- a register that is not there has no value
-abbrev pub register : Frame → ℕ → Option Value
-register f r = slice_get f.registers r
-
-abbrev pub result_index : Frame → ℕ
-result_index f = pred (length f.registers)
-
--- at instruction i of the same method
-abbrev pub moves : Here → List Value → ℕ → State
-moves here registers i =
-    Running here.callback here.heap (record { method = here.frame.method; index = i; registers = registers } ∷ here.rest)
-
-abbrev pub goes_to : Here → List Value → Option ℕ → State
-goes_to here registers None = Over Stuck
-goes_to here registers (Some i) = moves here registers i
-
--- on to successor k
-abbrev pub goes_on : Here → List Value → ℕ → State
-goes_on here registers k = goes_to here registers (successor_at here.subject.app here.frame.method here.frame.index k)
-
--- on with a value in a register; and in the result cell
-abbrev pub writes : Here → ℕ → Value → State
-writes here to v = goes_on here (slice_set here.frame.registers to v) 0
-
-abbrev pub answers : Here → Value → State
-answers here v = writes here (result_index here.frame) v
-
-abbrev pub handlers_of : Option Place → List ℕ
-handlers_of None = []
-handlers_of (Some place) = place.handlers
-
--- a throw: the handlers that it can come to, and where it can leave, what it does in the frame below
-abbrev pub unwinds : SubjectParts → Callback → Heap → List Frame → List State
-unwinds x at h [] = Over Uncaught ∷ []
-unwinds x at h (f ∷ rest) =
-    map (moves (here_of x at h f rest) f.registers) (handlers_of (place_at x.app f.method f.index))
-    ++ (if leaves_at x.app f.method f.index then unwinds x at h rest else [])
-
-abbrev pub throws_from : Here → List State
-throws_from here = unwinds here.subject here.callback here.heap (here.frame ∷ here.rest)
-
--- ---- where an instruction throws
--- by a register that must not be null
-abbrev pub null_options : Here → Option Value → List State → List State
-null_options here None normal = Over Stuck ∷ []
-null_options here (Some v) normal = if is_null v then throws_from here else normal
-
-abbrev pub throws_options : Here → Throws → List State → List State
-throws_options here Never normal = normal
-throws_options here ByChoice normal = normal ++ throws_from here
-throws_options here (WhereZero r) normal = null_options here (register here.frame r) normal
+use Rattle.run_model.specs.Choices.{Choices, Empty, Single, Then, ForEach, ForEvery, by_each, counted, listed, or_single, picked}
+use Rattle.run_model.specs.Heaps.{Value, Zero, Nonzero, Object, LockRef, Heap, cell, cell_value, is_lock, is_null, is_owned, lock_at, with_stored, with_null, with_cleared}
+use Rattle.run_model.specs.Frames.{Frame, Callback, State, free_numbers, free_references, written_values, Here, here_of, with_heap, register, result_index, moves, goes_on, writes, answers, throws_from, throws_options, Stuck, Escape, Idle, Running, AtEnd, Over}
+use Rattle.run_model.specs.Calls.{entry_values, entered_frame, call_options, fill_options}
 
 -- ---- the instructions
 -- on by each successor; the nop before a payload has none
-abbrev pub stuck_if_none : List State → List State
-stuck_if_none [] = Over Stuck ∷ []
-stuck_if_none (state ∷ states) = state ∷ states
-
 abbrev pub successors_of : Option Place → List ℕ
 successors_of None = []
 successors_of (Some place) = place.successors
 
-abbrev pub go_options : Here → List State
-go_options here =
-    stuck_if_none
-    (map (moves here here.frame.registers) (successors_of (place_at here.subject.app here.frame.method here.frame.index)))
+abbrev pub go_options : Here → Choices State
+go_options here = by_each (moves here here.frame.registers) (successors_of (place_at here.subject.app here.frame.method here.frame.index))
 
 -- the branch of a test by its value
 abbrev pub branch : (way : ℕ) → (is_zero : Bool) → ℕ
 branch way true = way
 branch way false = if way == 0 then 1 else 0
 
-abbrev pub test_options : Here → ℕ → Option Value → List State
-test_options here way None = Over Stuck ∷ []
-test_options here way (Some v) = goes_on here here.frame.registers (branch way (is_null v)) ∷ []
+abbrev pub test_options : Here → ℕ → Option Value → Choices State
+test_options here way None = Single (Over Stuck)
+test_options here way (Some v) = Single (goes_on here here.frame.registers (branch way (is_null v)))
 
 -- a copy, of a pair too: both are read before either is written
-abbrev pub copy_options : Here → ℕ → (wide : Bool) → (first second : Option Value) → List State
-copy_options here to wide None second = Over Stuck ∷ []
-copy_options here to false (Some v) second = writes here to v ∷ []
-copy_options here to true (Some v) None = Over Stuck ∷ []
-copy_options here to true (Some v) (Some w) = goes_on here (put true here.frame.registers to v w) 0 ∷ []
+abbrev pub copy_options : Here → ℕ → (wide : Bool) → (first second : Option Value) → Choices State
+copy_options here to wide None second = Single (Over Stuck)
+copy_options here to false (Some v) second = Single (writes here to v)
+copy_options here to true (Some v) None = Single (Over Stuck)
+copy_options here to true (Some v) (Some w) = Single (goes_on here (put true here.frame.registers to v w) 0)
 
-abbrev pub take_options : Here → ℕ → Option Value → List State
-take_options here to None = Over Stuck ∷ []
-take_options here to (Some v) = writes here to v ∷ []
+abbrev pub take_options : Here → ℕ → Option Value → Choices State
+take_options here to None = Single (Over Stuck)
+take_options here to (Some v) = Single (writes here to v)
 
 -- one value, or two of a pair, of which the first varies slowest
-abbrev pub written_options : Here → ℕ → (wide : Bool) → List Value → List State
-written_options here to false values = map (writes here to) values
-written_options here to true values =
-    flat_map (λ v. map (λ w. goes_on here (put true here.frame.registers to v w) 0) values) values
+abbrev pub written_pairs : Here → ℕ → (first second : List Value) → Choices State
+written_pairs here to [] second = Empty
+written_pairs here to (v ∷ first) second =
+    Then (ForEach second (λ w. goes_on here (put true here.frame.registers to v w) 0)) (written_pairs here to first second)
+
+abbrev pub written_options : Here → ℕ → (wide : Bool) → List Value → Choices State
+written_options here to false values = ForEach values (writes here to)
+written_options here to true values = written_pairs here to values values
 
 -- a store to a lock field: of null, or of a lock that no field owned before
-abbrev pub store_options : Here → ℕ → Value → List State
-store_options here l Zero = goes_on (with_heap here (with_null here.heap l)) here.frame.registers 0 ∷ []
-store_options here l Nonzero = Over Stuck ∷ []
-store_options here l (Object type) = Over Stuck ∷ []
+abbrev pub store_options : Here → ℕ → Value → Choices State
+store_options here l Zero = Single (goes_on (with_heap here (with_null here.heap l)) here.frame.registers 0)
+store_options here l Nonzero = Single (Over Stuck)
+store_options here l (Object type) = Single (Over Stuck)
 store_options here l (LockRef i) =
     if is_owned (lock_at here.heap i).owner
-    then Over Escape ∷ [] else goes_on (with_heap here (with_stored here.heap l i)) here.frame.registers 0 ∷ []
+    then Single (Over Escape) else Single (goes_on (with_heap here (with_stored here.heap l i)) here.frame.registers 0)
 
-abbrev pub write_options : Here → LockNo → Option Value → List State
-write_options here l None = Over Stuck ∷ []
+abbrev pub write_options : Here → LockNo → Option Value → Choices State
+write_options here l None = Single (Over Stuck)
 write_options here l (Some v) = store_options here l.0 v
 
 -- a value goes where a lock is not followed
-abbrev pub give_options : Here → Option Value → List State
-give_options here None = Over Stuck ∷ []
-give_options here (Some v) = if is_lock v then Over Escape ∷ [] else goes_on here here.frame.registers 0 ∷ []
+abbrev pub give_options : Here → Option Value → Choices State
+give_options here None = Single (Over Stuck)
+give_options here (Some v) = if is_lock v then Single (Over Escape) else Single (goes_on here here.frame.registers 0)
 
-abbrev pub throw_options : Here → Option Value → List State
-throw_options here None = Over Stuck ∷ []
-throw_options here (Some v) = if is_lock v then Over Escape ∷ [] else throws_from here
+abbrev pub throw_options : Here → Option Value → Choices State
+throw_options here None = Single (Over Stuck)
+throw_options here (Some v) = if is_lock v then Single (Over Escape) else throws_from here
 
 -- a return from the last frame ends the callback
 abbrev pub ended : Callback → Heap → Option Edge → State
@@ -249,128 +96,19 @@ resumes x at h (f ∷ rest) v = answers (here_of x at h f rest) v
 abbrev pub returns : Here → Value → State
 returns here v = resumes here.subject here.callback here.heap here.rest v
 
-abbrev pub return_by : Here → Option Value → List State
-return_by here None = Over Stuck ∷ []
-return_by here (Some v) = returns here v ∷ []
+abbrev pub return_by : Here → Option Value → Choices State
+return_by here None = Single (Over Stuck)
+return_by here (Some v) = Single (returns here v)
 
 -- a pair is answered as zero
-abbrev pub return_options : Here → Returned → List State
-return_options here returned.Nothing = returns here Zero ∷ []
-return_options here returned.Wide = returns here Zero ∷ []
+abbrev pub return_options : Here → Returned → Choices State
+return_options here returned.Nothing = Single (returns here Zero)
+return_options here returned.Wide = Single (returns here Zero)
 return_options here (returned.Register r) = return_by here (register here.frame r)
 
--- ---- calls
--- the receiver: a call without arguments has none
-abbrev pub receiver_in : Frame → Args → Option Value
-receiver_in f arguments = if args_len arguments == 0 then None else register f (receiver_of arguments)
-
-abbrev pub is_lock_in : Option Value → Bool
-is_lock_in None = false
-is_lock_in (Some v) = is_lock v
-
--- an argument of that number or a later one is a lock
-abbrev pub gives_lock : Frame → Args → ℕ → Bool
-gives_lock f arguments from = any_below (λ k. nat_le from k && is_lock_in (register f (arg_at arguments k))) (args_len arguments)
-
--- release: of a counted lock one less, of another all
-abbrev pub release_options : Here → ℕ → Bool → ℕ → List State
-release_options here i true zero = throws_from here
-release_options here i true (suc n) = answers (with_heap here (with_count here.heap i n)) Zero ∷ []
-release_options here i false n = answers (with_heap here (with_count here.heap i 0)) Zero ∷ []
-
--- setReferenceCounted
-abbrev pub mode_options : Here → ℕ → Option Value → List State
-mode_options here i None = Over Stuck ∷ []
-mode_options here i (Some v) = answers (with_heap here (with_mode here.heap i (not (is_null v)))) Zero ∷ []
-
--- a lock call on lock i, which a field owns
-abbrev pub operation_options : Here → LockOp → Args → ℕ → List State
-operation_options here Acquire arguments i =
-    answers (with_heap here (with_count here.heap i (suc (lock_at here.heap i).count))) Zero ∷ []
-operation_options here Release arguments i = release_options here i (lock_at here.heap i).counted (lock_at here.heap i).count
-operation_options here IsHeld arguments i = answers here (held_value (lock_at here.heap i).count) ∷ []
-operation_options here Mode arguments i = mode_options here i (register here.frame (argument_of arguments))
-
--- a lock call by its receiver
-abbrev pub lock_call_options : Here → LockOp → Args → Option Value → List State
-lock_call_options here op arguments None = Over Stuck ∷ []
-lock_call_options here op arguments (Some Zero) = throws_from here
-lock_call_options here op arguments (Some Nonzero) = Over Stuck ∷ []
-lock_call_options here op arguments (Some (Object type)) = Over Stuck ∷ []
-lock_call_options here op arguments (Some (LockRef i)) =
-    if is_owned (lock_at here.heap i).owner then operation_options here op arguments i else Over Escape ∷ []
-
--- what another call answers: newWakeLock a new lock, every other one what the outside gives
-abbrev pub answer_options : Here → LockUse → Gives → List State
-answer_options here Make given =
-    answers (with_heap here (with_new here.heap (site_at here.subject.app here.frame.method here.frame.index)))
-    (LockRef (length here.heap.locks)) ∷ []
-answer_options here usage given = map (answers here) (answers_of here.subject.app given)
-
--- an object of that type may be the receiver of a call of the named method; an array's methods take every object
-abbrev pub may_receive : AppParts → Option ℕ → Option Named → Bool
-may_receive app t None = false
-may_receive app t (Some named) = slice_index (type_text app named.class.0) 0 == 91 || may_be_sub app t named.class.0
-
-abbrev pub outside_answers : Here → LockUse → Gives → List State
-outside_answers here usage given = answer_options here usage given ++ throws_from here
-
--- an object as the receiver: of a virtual call it is one of the named class
-abbrev pub object_options : Here → By → Option ℕ → List State → List State
-object_options here Virtual type normal =
-    if may_receive here.subject.app type (named_at here.subject.app here.frame.method here.frame.index)
-    then normal else Over Stuck ∷ []
-object_options here Super type normal = normal
-object_options here Direct type normal = normal
-object_options here Static type normal = normal
-
--- another call by its receiver, which is no lock; it may answer, or throw
-abbrev pub receiver_options : Here → By → Option Value → List State → List State
-receiver_options here by None normal = Over Stuck ∷ []
-receiver_options here by (Some Zero) normal = throws_from here
-receiver_options here by (Some Nonzero) normal = Over Stuck ∷ []
-receiver_options here by (Some (LockRef i)) normal = Over Stuck ∷ []
-receiver_options here by (Some (Object type)) normal = object_options here by type normal
-
-abbrev pub outside_options : Here → By → LockUse → Gives → Option Value → List State
-outside_options here Static usage given receiver = outside_answers here usage given
-outside_options here Virtual usage given receiver = receiver_options here Virtual receiver (outside_answers here usage given)
-outside_options here Super usage given receiver = receiver_options here Super receiver (outside_answers here usage given)
-outside_options here Direct usage given receiver = receiver_options here Direct receiver (outside_answers here usage given)
-
--- setReferenceCounted without an argument
-abbrev pub lacks_argument : LockOp → Option Value → Bool
-lacks_argument Mode None = true
-lacks_argument Mode (Some v) = false
-lacks_argument Acquire argument = false
-lacks_argument Release argument = false
-lacks_argument IsHeld argument = false
-
-abbrev pub full_lock_call_options : Here → LockOp → Args → List State
-full_lock_call_options here op arguments =
-    if lacks_argument op (register here.frame (argument_of arguments))
-    then Over Stuck ∷ [] else lock_call_options here op arguments (receiver_in here.frame arguments)
-
--- a lock may be the receiver of a lock call, and no other argument of a call
-abbrev pub call_by_op : Here → By → LockUse → Args → Gives → Option LockOp → List State
-call_by_op here by usage arguments given (Some op) =
-    if gives_lock here.frame arguments 1
-    then Over Escape ∷ [] else full_lock_call_options here op arguments
-call_by_op here by usage arguments given None =
-    if gives_lock here.frame arguments 0
-    then Over Escape ∷ [] else outside_options here by usage given (receiver_in here.frame arguments)
-
-abbrev pub call_options : Here → By → LockUse → Args → Gives → List State
-call_options here by usage arguments given = call_by_op here by usage arguments given (op_of usage)
-
--- an array of its arguments, in the result cell
-abbrev pub fill_options : Here → Args → TypeNo → List State
-fill_options here arguments kind =
-    if gives_lock here.frame arguments 0 then Over Escape ∷ [] else answers here (Object (Some kind.0)) ∷ []
-
 -- ---- every act
-abbrev pub act_options : Here → Option Act → List State
-act_options here None = Over Stuck ∷ []
+abbrev pub act_options : Here → Option Act → Choices State
+act_options here None = Single (Over Stuck)
 act_options here (Some Go) = go_options here
 act_options here (Some (Test value way)) = test_options here way (register here.frame value)
 act_options here (Some (Copy to from wide)) =
@@ -380,11 +118,11 @@ act_options here (Some (Write to what throws)) =
     throws_options here throws (written_options here to (is_pair what) (written_values here.subject.app what))
 act_options here (Some (Fill arguments kind)) = fill_options here arguments kind
 act_options here (Some (ReadSlot to slot throws)) =
-    throws_options here throws (writes here to (cell_value (cell here.heap slot.0)) ∷ [])
+    throws_options here throws (Single (writes here to (cell_value (cell here.heap slot.0))))
 act_options here (Some (WriteSlot from slot throws)) =
     throws_options here throws (write_options here slot (register here.frame from))
 act_options here (Some (Give from throws)) = throws_options here throws (give_options here (register here.frame from))
-act_options here (Some (Check throws)) = throws_options here throws (goes_on here here.frame.registers 0 ∷ [])
+act_options here (Some (Check throws)) = throws_options here throws (Single (goes_on here here.frame.registers 0))
 act_options here (Some (Throw object)) = throw_options here (register here.frame object)
 act_options here (Some (Return answer)) = return_options here answer
 act_options here (Some (Call by usage arguments given)) = call_options here by usage arguments given
@@ -398,11 +136,6 @@ abbrev pub parameter_words : AppParts → Option ProtoParts → List (List Value
 parameter_words app None = []
 parameter_words app (Some proto) = flat_map (λ (t : TypeNo). argument_words app (type_text app t.0)) proto.params
 
--- one value of each word, in every way; those of the first word vary slowest
-abbrev pub chosen : List (List Value) → List (List Value)
-chosen [] = [] ∷ []
-chosen (word ∷ words) = flat_map (λ v. map (λ vs. v ∷ vs) (chosen words)) word
-
 -- the type of a component's objects
 abbrev pub class_type : Option ClassParts → Option ℕ
 class_type None = None
@@ -412,45 +145,59 @@ abbrev pub this_of : AppParts → Option ComponentParts → Value
 this_of app None = Object None
 this_of app (Some component) = Object (class_type (slice_get app.classes component.class.0))
 
--- the registers with which a method may begin as a callback of an object: each word is chosen, and then they fill the
--- argument registers
-abbrev pub entries_of : AppParts → Value → Option MethodRow → List (List Value)
-entries_of app this None = [] ∷ []
-entries_of app this (Some method) =
-    map (λ words. entry_row Zero method.registers method.ins (this ∷ words)) (chosen (parameter_words app (slice_get app.protos method.proto.0)))
+-- the method of edge e of component c begins: each word is chosen, and then they fill the argument registers
+abbrev pub starts_with : SubjectParts → Callback → Heap → ℕ → Option MethodRow → (words : List Value) → State
+starts_with x at h m method words = Running at h (entered_frame m (entry_values method words) ∷ [])
 
-abbrev pub entered_frame : ℕ → List Value → Frame
-entered_frame m registers = record { method = m; index = 0; registers = registers }
+abbrev pub method_starts : SubjectParts → Callback → Heap → ℕ → (this : Value) → Option MethodRow → Choices State
+method_starts x at h m this None = Single (starts_with x at h m None [])
+method_starts x at h m this (Some method) =
+    ForEvery (parameter_words x.app (slice_get x.app.protos method.proto.0)) (λ words. starts_with x at h m (Some method) (this ∷ words))
 
 -- edge e of component c: an edge without a method is at its end at once
-abbrev pub begins : SubjectParts → List ℕ → Heap → ℕ → ℕ → Edge → Option ℕ → List State
+abbrev pub begins : SubjectParts → List ℕ → Heap → ℕ → ℕ → Edge → Option ℕ → Choices State
 begins x states h c e edge None =
-    AtEnd (record { states = slice_set states c edge.to; component = c; edge = e }) (with_cleared h (clears x c edge)) ∷ []
+    Single (AtEnd (record { states = slice_set states c edge.to; component = c; edge = e }) (with_cleared h (clears x c edge)))
 begins x states h c e edge (Some m) =
-    map (λ registers. Running (record { states = states; component = c; edge = e }) (with_cleared h (clears x c edge)) (entered_frame m registers ∷ []))
-    (entries_of x.app (this_of x.app (slice_get x.list c)) (slice_get x.app.methods m))
+    method_starts x (record { states = states; component = c; edge = e }) (with_cleared h (clears x c edge)) m
+    (this_of x.app (slice_get x.list c)) (slice_get x.app.methods m)
 
 -- the starts of the edges that leave the state of component c; e numbers the first edge, c the first component
-abbrev pub edge_starts : SubjectParts → List ℕ → Heap → ℕ → ℕ → List Edge → List State
-edge_starts x states h c e [] = []
+abbrev pub edge_starts : SubjectParts → List ℕ → Heap → ℕ → ℕ → List Edge → Choices State
+edge_starts x states h c e [] = Empty
 edge_starts x states h c e (edge ∷ edges) =
-    (if edge.from == slice_index states c then begins x states h c e edge (callback_at x.list c edge.callback) else [])
-    ++ edge_starts x states h c (suc e) edges
+    Then (if edge.from == slice_index states c then begins x states h c e edge (callback_at x.list c edge.callback) else Empty)
+    (edge_starts x states h c (suc e) edges)
 
-abbrev pub starts : SubjectParts → List ℕ → Heap → ℕ → List ComponentParts → List State
-starts x states h c [] = []
-starts x states h c (component ∷ components) = edge_starts x states h c 0 (edges_of component.kind) ++ starts x states h (suc c) components
+abbrev pub component_starts : SubjectParts → List ℕ → Heap → ℕ → List ComponentParts → Choices State
+component_starts x states h c [] = Empty
+component_starts x states h c (component ∷ components) =
+    Then (edge_starts x states h c 0 (edges_of component.kind)) (component_starts x states h (suc c) components)
+
+abbrev pub starts : SubjectParts → List ℕ → Heap → Choices State
+starts x states h = component_starts x states h 0 x.list
 
 -- ---- runs
--- what may come next
-abbrev pub options_of : SubjectParts → State → List State
-options_of x (Idle states h) = starts x states h 0 x.list
-options_of x (Running at h []) = Over Stuck ∷ []
-options_of x (Running at h (f ∷ rest)) = act_options (here_of x at h f rest) (act_at x.app f.method f.index)
-options_of x (AtEnd at h) = Idle at.states h ∷ []
-options_of x (Over why) = Over why ∷ []
+-- what may come next: an instruction after which nothing comes is Stuck, and where no callback can start, the machine
+-- rests
+abbrev pub choices_of : SubjectParts → State → Choices State
+choices_of x (Idle states h) = or_single (starts x states h) (Idle states h)
+choices_of x (Running at h []) = Single (Over Stuck)
+choices_of x (Running at h (f ∷ rest)) = or_single (act_options (here_of x at h f rest) (act_at x.app f.method f.index)) (Over Stuck)
+choices_of x (AtEnd at h) = Single (Idle at.states h)
+choices_of x (Over why) = Single (Over why)
 
--- the option of a number, and the state itself where there is none
+abbrev pub options_of : SubjectParts → State → List State
+options_of x s = listed (choices_of x s)
+
+-- how many they are, and option number k, without the list
+abbrev pub count_of : SubjectParts → State → ℕ
+count_of x s = counted (choices_of x s)
+
+abbrev pub option_at : SubjectParts → State → ℕ → Option State
+option_at x s k = picked (choices_of x s) k
+
+-- the option of a number
 abbrev pub step : SubjectParts → ℕ → State → State
 step x k s = slice_index_or (options_of x s) (k % length (options_of x s)) s
 

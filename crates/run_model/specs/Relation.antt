@@ -1,19 +1,19 @@
 -- The relation between a set of facts for lock field l and a state, which each step of the machine keeps.
-use Rattle.std.specs.Prelude.{◌≡◌, ℕ, ◌<◌, ◌≤◌, true, false, List, [], ◌∷◌, length, Option, Some, None, slice_index, slice_index_or, slice_set}
+use Rattle.std.specs.Prelude.{◌≡◌, ℕ, ◌<◌, ◌≤◌, ◌↔◌, Bool, Contains, true, false, List, [], ◌∷◌, length, Option, Some, None, slice_index, slice_index_or, slice_set}
 use Rattle.app_model.specs.declared.component.Edge.{Edge}
 use Rattle.app_model.specs.declared.tag.Tag.{Tag}
 use Rattle.app_model.specs.declared.tag.Tag.TheVariants as tag
 use Rattle.app_model.specs.Components.{edge_at, callback_at}
-use Rattle.act_model.specs.declared.act.Act.{Act}
-use Rattle.act_model.specs.Acts.{act_at}
-use Rattle.act_model.specs.Changes.{tag_in, thrown}
+use Rattle.act_model.specs.Changes.{called, tag_in}
 use Rattle.flow_model.specs.Derived.{Set, HasAll}
 use Rattle.app_model.specs.Facts.{Fact, View, At}
 use Rattle.flow_model.specs.Rules.{Carries, entered}
-use Rattle.app_model.specs.Subject.{SubjectParts, row_at, slot_count}
+use Rattle.app_model.specs.Subject.{SubjectParts, callees_at, is_reached, row_at, slot_count}
+use Rattle.app_model.specs.Reach.{Assigns}
+use Rattle.app_model.specs.Targets.{method_no}
+use Rattle.flow_model.specs.Subject.{is_open}
 use Rattle.run_model.specs.Heaps.{Value, Zero, Nonzero, Object, LockRef, Heap, cell, cell_value, held_value, is_lock, lock_at, status}
-use Rattle.run_model.specs.Machine.{Callback, Frame, State, Idle, Running, AtEnd, Over, Reason, Uncaught, Stuck, Escape}
-use Rattle.run_model.specs.Tagged.{IsEntered}
+use Rattle.run_model.specs.Frames.{Callback, Frame, State, Idle, Running, AtEnd, Over, Reason, Uncaught, Stuck, Escape}
 
 -- what holds of each member of a list
 abbrev pub Each : {A : Type 0} → (A → Type 0) → List A → Type 0
@@ -67,35 +67,36 @@ pub record AreTagged (row : List Tag) (values : List Value) (lo hi : ℕ) (h : H
   pub each : (r : ℕ) → r < length row → Means (tag_in row r) (slice_index_or values r Zero) lo hi h
 
 -- ---- frames
--- the instruction calls method n of the application: there is none that does so yet
-abbrev pub Calls : Option Act → ℕ → Type 0
-Calls act n = ⊥
-
 -- a frame that waits for a method n, which was entered at status `es` when there were `hi` locks;
 -- itself it was entered at status `e` when there were `lo` locks
-pub record IsWaiting (x : SubjectParts) (set : Set) (h : Heap) (f : Frame) (n es hi e lo : ℕ) : Type 0 where
+pub record IsWaiting (x : SubjectParts) (l : ℕ) (set : Set) (h : Heap) (f : Frame) (n es hi e lo : ℕ) : Type 0 where
   pub from : lo ≤ hi
-  pub entered : IsEntered x f.method
+  pub reached : is_reached x f.method ≡ true
   pub at : set (At f.method e f.index es) ≡ true
-  pub call : Calls (act_at x.app f.method f.index) n
-  pub registers : (a : Act) → act_at x.app f.method f.index ≡ Some a → AreTagged (thrown a (row_at x f.method f.index)) f.registers lo hi h
+  -- the call there can call it, and was open
+  pub callee : Contains (callees_at x f.method f.index) (method_no n)
+  pub opened : is_open x l f.method f.index es ≡ true
+  -- its registers are as after a call of it: the lock fields to which its reach stores are gone
+  pub gone : ℕ → Bool
+  pub assigns : (k : ℕ) → (gone k ≡ true) ↔ Assigns x.app x.graph n k
+  pub registers : AreTagged (called gone (row_at x f.method f.index)) f.registers lo hi h
 
 -- the frames below a method n that was entered at status `es` when there were `hi` locks;
 -- the first one is the callback's method, entered at the status at which the callback began
-abbrev pub Below : SubjectParts → Set → (root s0 : ℕ) → Heap → List Frame → ℕ → ℕ → ℕ → Type 0
-Below x set root s0 h [] n es hi = (n ≡ root) × (es ≡ s0)
-Below x set root s0 h (f ∷ rest) n es hi =
-    (e : ℕ) × (lo : ℕ) × IsWaiting x set h f n es hi e lo × Below x set root s0 h rest f.method e lo
+abbrev pub Below : SubjectParts → (l : ℕ) → Set → (root s0 : ℕ) → Heap → List Frame → ℕ → ℕ → ℕ → Type 0
+Below x l set root s0 h [] n es hi = (n ≡ root) × (es ≡ s0)
+Below x l set root s0 h (f ∷ rest) n es hi =
+    (e : ℕ) × (lo : ℕ) × IsWaiting x l set h f n es hi e lo × Below x l set root s0 h rest f.method e lo
 
 -- the frame that runs
 pub record IsTop (x : SubjectParts) (l : ℕ) (set : Set) (root s0 : ℕ) (h : Heap) (f : Frame) (rest : List Frame) : Type 0 where
   pub e : ℕ
   pub lo : ℕ
   pub from : lo ≤ length h.locks
-  pub entered : IsEntered x f.method
+  pub reached : is_reached x f.method ≡ true
   pub at : set (At f.method e f.index (status h l)) ≡ true
   pub registers : AreTagged (row_at x f.method f.index) f.registers lo (length h.locks) h
-  pub below : Below x set root s0 h rest f.method e lo
+  pub below : Below x l set root s0 h rest f.method e lo
 
 abbrev pub IsStack : SubjectParts → ℕ → Set → (root s0 : ℕ) → Heap → List Frame → Type 0
 IsStack x l set root s0 h [] = ⊥

@@ -1,5 +1,5 @@
 -- Small applications, and what is seen of runs of them.
-use Rattle.std.specs.Prelude.{ℕ, ◌≡◌, pos, true, List, [], ◌∷◌, ◌++◌, length, map, replicate, Option, Some, None, codes}
+use Rattle.std.specs.Prelude.{ℕ, ◌≡◌, pos, true, List, [], ◌∷◌, ◌++◌, length, map, replicate, Option, Some, None, codes, option_map, Option}
 use Rattle.std.specs.List.{range_with_len}
 use Rattle.ns_base.specs.declared.rows.ComponentNo.{ComponentNo}
 use Rattle.ns_base.specs.declared.rows.MethodNo.{MethodNo}
@@ -8,7 +8,7 @@ use Rattle.dalvik.specs.declared.body.Place.{Place}
 use Rattle.dalvik.specs.declared.ins.Args.TheVariants as args
 use Rattle.dalvik.specs.declared.ins.Ins.{Ins}
 use Rattle.dalvik.specs.declared.ins.Ins.TheVariants as ins
-use Rattle.dalvik.specs.declared.opcode.TheConstants.{AGET_WIDE, APUT_OBJECT, CONST_4, DIV_INT, DIV_INT_LIT8, IF_EQZ, IF_NEZ, INVOKE_VIRTUAL, IPUT, IPUT_OBJECT, MONITOR_ENTER, MOVE_RESULT_OBJECT, MOVE_WIDE, PACKED_SWITCH, SGET_OBJECT, SPUT_OBJECT}
+use Rattle.dalvik.specs.declared.opcode.TheConstants.{AGET_WIDE, APUT_OBJECT, CONST_4, DIV_INT, DIV_INT_LIT8, IF_EQZ, IF_NEZ, INVOKE_STATIC, INVOKE_SUPER, INVOKE_VIRTUAL, IPUT, IPUT_OBJECT, MONITOR_ENTER, MOVE_RESULT_OBJECT, MOVE_WIDE, PACKED_SWITCH, RETURN, SGET_OBJECT, SPUT_OBJECT}
 use Rattle.app_model.specs.declared.component.Kind.TheVariants.{Receiver, Runnable, Service}
 use Rattle.app_model.specs.declared.rows.MethodRow.{MethodRow}
 use Rattle.app_model.specs.declared.rows.Operand.{Operand}
@@ -18,7 +18,8 @@ use Rattle.app_model.specs.Names.{power_manager_name, string_name, wake_lock_nam
 use Rattle.app_model.specs.Parts.{AppParts, ClassParts, ProtoParts}
 use Rattle.app_model.specs.Subject.{SubjectParts, slot_count}
 use Rattle.run_model.specs.Heaps.{Value, Zero, Nonzero, Object, Heap, status}
-use Rattle.run_model.specs.Machine.{Reason, State, Idle, Running, AtEnd, Over, Uncaught, Stuck, Escape, options_of, run_of}
+use Rattle.run_model.specs.Frames.{Frame, Reason, State, Idle, Running, AtEnd, Over, Uncaught, Stuck, Escape}
+use Rattle.run_model.specs.Machine.{count_of, option_at, options_of, run_of, start_of}
 
 -- ---- what is seen of a state: the components' states or the instruction and its registers, and the lock fields' statuses
 pub data Sight : Type 0 where
@@ -300,3 +301,108 @@ ServiceFirst = seen pair (served ++ 0 ∷ received) ≡ Ends (0 ∷ 1 ∷ []) (2
 -- the service's other callbacks are outside: they are at their end at once
 abbrev pub OutsideEnds : Type 0
 OutsideEnds = (seen pair (served ++ 0 ∷ 169 ∷ []) ∷ seen pair (served ++ 0 ∷ 174 ∷ []) ∷ []) ≡ Ends (0 ∷ 1 ∷ []) (0 ∷ []) ∷ Ends (0 ∷ 0 ∷ []) (0 ∷ []) ∷ []
+
+-- ---- calls of methods of the application
+-- the methods that run: the innermost first
+abbrev pub methods_of : State → List ℕ
+methods_of (Running at h frames) = map (λ (f : Frame). f.method) frames
+methods_of (Idle states h) = []
+methods_of (AtEnd at h) = []
+methods_of (Over why) = []
+
+unfoldable pub methods_seen : SubjectParts → List ℕ → List ℕ
+methods_seen x choices = methods_of (run_of x choices)
+
+-- T.run() has the given code. T.pick is static and returns the first of its two arguments, T.fail() throws; B is an A and
+-- calls its superclass, and the superclass of C is outside
+abbrev pub call_app : List Place → List Operand → AppParts
+call_app places names = record {
+  types = codes "Lapp/T;" ∷ codes "Ljava/lang/Object;" ∷ codes "Ljava/lang/Runnable;" ∷ codes "V" ∷ codes "I" ∷ codes "Lapp/A;" ∷ codes "Lapp/B;" ∷ codes "Lapp/C;" ∷ codes "Lout/Base;" ∷ [];
+  names = codes "run" ∷ codes "pick" ∷ codes "fail" ∷ codes "get" ∷ [];
+  protos = proto 3 [] ∷ proto 4 (type 4 ∷ type 4 ∷ []) ∷ proto 4 [] ∷ [];
+  classes = class_below 0 1 (type 2 ∷ []) ∷ class_below 5 1 [] ∷ class_below 6 5 [] ∷ class_below 7 8 [] ∷ [];
+  methods = method_of 0 0 0 4 1 ∷ method_of 0 1 1 3 2 ∷ method_of 0 2 0 1 0 ∷ method_of 1 3 2 1 1 ∷ method_of 2 3 2 2 1 ∷ [];
+  fields = [];
+  locks = [];
+  code = record { registers = 4; places = places } ∷ record { registers = 3; places = place 0 (ins.Return RETURN 1) [] [] ∷ [] }
+      ∷ record { registers = 1; places = place 0 (ins.Throw 0) [] [] ∷ [] } ∷ record { registers = 1; places = place 0 (ins.Return RETURN 0) [] [] ∷ [] }
+      ∷ record { registers = 2; places = place 0 (ins.Invoke INVOKE_SUPER 0 (args.Range 1 1)) (1 ∷ []) [] ∷ place 3 (ins.Return RETURN 0) [] [] ∷ [] } ∷ [];
+  operands = names ∷ (operand.Plain ∷ []) ∷ (operand.Plain ∷ []) ∷ (operand.Plain ∷ []) ∷ (calls 5 3 2 ∷ operand.Plain ∷ []) ∷ [];
+}
+
+-- an instruction, and then a call, of which a throw can come to the second return
+unfoldable pub calling : (first call : Ins) (named : Operand) → SubjectParts
+calling first call named = subject
+    (call_app (place 0 first (1 ∷ []) [] ∷ place 2 call (2 ∷ []) (3 ∷ []) ∷ returning 5 ∷ returning 6 ∷ []) (operand.Plain ∷ named ∷ operand.Plain ∷ operand.Plain ∷ []))
+    (record { class = record { 0 = 0 }; kind = Runnable; exits = 1; methods = some_method 0 ∷ [] } ∷ []) []
+
+-- the first register is another number than zero, and the words of the call are it, the second register and it again
+abbrev pub static_call : SubjectParts
+static_call = calling (ins.Const CONST_4 0 (pos 1)) (ins.Invoke INVOKE_STATIC 1 (args.List 3 (0 ∷ 1 ∷ 0 ∷ 0 ∷ 0 ∷ []))) (calls 0 1 1)
+
+-- the last word has no register
+abbrev pub StaticCall : Type 0
+StaticCall = next_seen static_call (0 ∷ 0 ∷ []) ≡ Stands 0 (Zero ∷ Nonzero ∷ Zero ∷ Zero ∷ []) [] ∷ []
+
+-- what the method returns is in the caller's result cell, behind the call
+abbrev pub StaticReturn : Type 0
+StaticReturn = next_seen static_call (0 ∷ 0 ∷ 0 ∷ []) ≡ Stands 2 (Nonzero ∷ Zero ∷ Zero ∷ Object (Some 0) ∷ Nonzero ∷ []) [] ∷ []
+
+-- a throw that leaves the method comes to the handler of the call, or leaves its method too
+abbrev pub failing_call : SubjectParts
+failing_call = calling ins.Nop (ins.Invoke INVOKE_STATIC 2 (args.Range 0 0)) (calls 0 2 0)
+
+abbrev pub ThrowsThrough : Type 0
+ThrowsThrough = next_seen failing_call (0 ∷ 0 ∷ 0 ∷ []) ≡ Stands 3 at_start [] ∷ Breaks Uncaught ∷ []
+
+-- a call of A.get() on a new object of a type
+abbrev pub getting : (made named : ℕ) → SubjectParts
+getting made named = calling (ins.NewInstance 0 made) (ins.Invoke INVOKE_VIRTUAL 3 (args.Range 0 1)) (calls named 3 2)
+
+abbrev pub new_object : ℕ → List Value
+new_object made = values (Object (Some made)) Zero Zero
+
+-- it is the method of the receiver's type, whichever class is named
+abbrev pub PicksOverride : Type 0
+PicksOverride = (methods_seen (getting 5 5) (0 ∷ 0 ∷ 0 ∷ []) ∷ methods_seen (getting 6 5) (0 ∷ 0 ∷ 0 ∷ []) ∷ []) ≡ (3 ∷ 0 ∷ []) ∷ (4 ∷ 0 ∷ []) ∷ []
+
+-- which begins with the receiver in its last register, and calls that of its superclass
+abbrev pub CallsSuper : Type 0
+CallsSuper = (seen (getting 6 5) (0 ∷ 0 ∷ 0 ∷ []) ∷ seen (getting 6 5) (0 ∷ 0 ∷ 0 ∷ 0 ∷ []) ∷ [])
+    ≡ Stands 0 (Zero ∷ Object (Some 6) ∷ Zero ∷ []) [] ∷ Stands 0 (Object (Some 6) ∷ Zero ∷ []) [] ∷ []
+
+-- C has no such method, and nor has the application above it
+abbrev pub LeadsOutside : Type 0
+LeadsOutside = next_seen (getting 7 7) (0 ∷ 0 ∷ [])
+    ≡ Stands 2 (new_object 7) [] ∷ Stands 2 (Object (Some 7) ∷ Zero ∷ Zero ∷ Object (Some 0) ∷ Nonzero ∷ []) [] ∷ Stands 3 (new_object 7) [] ∷ Breaks Uncaught ∷ []
+
+-- no T is an A, and on null nothing is called
+abbrev pub NoReceiver : Type 0
+NoReceiver = next_seen (getting 0 5) (0 ∷ 0 ∷ []) ≡ Breaks Stuck ∷ []
+
+abbrev pub NullReceiver : Type 0
+NullReceiver = next_seen (calling ins.Nop (ins.Invoke INVOKE_VIRTUAL 3 (args.Range 0 1)) (calls 5 3 2)) (0 ∷ 0 ∷ []) ≡ Stands 3 at_start [] ∷ Breaks Uncaught ∷ []
+
+-- without components the machine rests
+unfoldable pub resting : SubjectParts
+resting = subject leaking_app [] (None ∷ [])
+
+abbrev pub RestsAlone : Type 0
+RestsAlone = (next_seen resting [] ∷ next_seen resting (0 ∷ 7 ∷ []) ∷ []) ≡ (Rests [] (0 ∷ []) ∷ []) ∷ (Rests [] (0 ∷ []) ∷ []) ∷ []
+
+-- ---- the starts of callbacks by number: 13 values of each argument of the receiver, and one start of the service
+unfoldable pub starts_counted : SubjectParts → ℕ
+starts_counted x = count_of x (start_of x)
+
+unfoldable pub start_seen : SubjectParts → ℕ → Option Sight
+start_seen x k = option_map (sight_of x) (option_at x (start_of x) k)
+
+abbrev pub StartsCounted : Type 0
+StartsCounted = starts_counted pair ≡ 170
+
+-- the first argument varies slowest: number 15 is 1 and 2 in digits of 13
+abbrev pub FirstSlowest : Type 0
+FirstSlowest = start_seen pair 15 ≡ Some (Stands 0 (Zero ∷ Zero ∷ Object (Some 0) ∷ Object (Some 0) ∷ Object (Some 1) ∷ Zero ∷ []) (0 ∷ []))
+
+abbrev pub NoSuchStart : Type 0
+NoSuchStart = start_seen pair 170 ≡ None

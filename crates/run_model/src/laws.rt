@@ -1,17 +1,29 @@
 //! What the flow rules say of the runs of the machine.
-ghost use Rattle.std.specs.Prelude.{◌≡◌, ◌<◌, ◌↔◌, ℕ, List, true};
+ghost use Rattle.std.specs.Prelude.{◌≡◌, ◌<◌, ◌↔◌, ◌≢◌, ◌%◌, ℕ, List, [], length, slice_get, Option, Some, true};
 ghost use Rattle.flow_model.specs.Derived.{Set, IsClosed};
 ghost use Rattle.app_model.specs.Masks.{is_held};
 ghost use Rattle.flow_model.specs.Policy.{MeetsPolicy};
 ghost use Rattle.flow_model.specs.Rules.{Inner, Rules};
 ghost use Rattle.flow_model.specs.Subject.{status_masks};
 ghost use Rattle.app_model.specs.Subject.{SubjectParts, slot_count};
+ghost use Rattle.act_model.specs.Acts.{act_at};
+ghost use Rattle.act_model.specs.declared.act.Act.TheVariants.{Call};
+ghost use Rattle.act_model.specs.declared.act.Gives.{Gives};
+ghost use Rattle.app_model.specs.CallGraph.{targets_at};
+ghost use Rattle.app_model.specs.Targets.{IsCallGraph};
+ghost use Rattle.app_model.specs.Words.{named_at};
+ghost use Rattle.app_model.specs.declared.calls.By.{By};
+ghost use Rattle.app_model.specs.declared.lock_use.LockUse.{LockUse};
+ghost use Rattle.dalvik.specs.declared.ins.Args.{Args};
 ghost use Rattle.run_model.specs.Heaps.{Heap, status};
-ghost use Rattle.run_model.specs.Machine.{Callback, Frame, Idle, Running, options_of, run_of};
+ghost use Rattle.run_model.specs.Frames.{Callback, Frame, Running, State};
+ghost use Rattle.run_model.specs.Calls.{target_of};
+ghost use Rattle.run_model.specs.Machine.{count_of, option_at, options_of, run_of, starts, step};
+ghost use Rattle.run_model.specs.Choices.{listed};
 ghost use Rattle.run_model.specs.Relation.{Each, IsHeap, IsIdle, IsInside, IsSound};
-ghost use Rattle.run_model.specs.Soundness.{HoldsLock, LeavesNoneHeld, StandsWell};
+ghost use Rattle.run_model.specs.Soundness.{FitsTarget, HoldsLock, LeavesNoneHeld, StandsWell};
 ghost use Rattle.run_model.specs.Tagged.{IsTagged};
-ghost use Rattle.run_model.specs.Worked.{ClearsOwned, CopyDown, CopyUp, DivisionByTwo, DivisionThrows, KeepsStatic, LeavesFree, LeavesHeld, LockEscapes, LosesLock, MakingThrows, MonitorOnNull, MonitorOnObject, NonzeroBranches, OutsideEnds, ReceiverFirst, ReleaseThrows, ServiceFirst, StoreToNull, StoreToObject, SwitchGoes, WideRead, ZeroBranches};
+ghost use Rattle.run_model.specs.Worked.{CallsSuper, ClearsOwned, CopyDown, CopyUp, DivisionByTwo, DivisionThrows, FirstSlowest, KeepsStatic, LeadsOutside, LeavesFree, LeavesHeld, LockEscapes, LosesLock, MakingThrows, MonitorOnNull, MonitorOnObject, NoReceiver, NoSuchStart, NonzeroBranches, NullReceiver, OutsideEnds, PicksOverride, ReceiverFirst, ReleaseThrows, RestsAlone, ServiceFirst, StartsCounted, StaticCall, StaticReturn, StoreToNull, StoreToObject, SwitchGoes, ThrowsThrough, WideRead, ZeroBranches};
 
 /// Soundness: what a closed set of facts that meets the policy says of every run. The relation between the set and the
 /// state in which a run stands needs no policy.
@@ -23,13 +35,28 @@ pub fn soundness()
 
 /// The part of it that needs the rules inside callbacks alone: the start of a callback, and each step inside it.
 pub fn soundness_inside()
-    ensures starts { (x : SubjectParts) (l : ℕ) (set : Set) → IsTagged x → IsClosed (Inner x l (status_masks x l)) set → (states : List ℕ) (h : Heap) → IsIdle x l set states h → Each (IsInside x l set) (options_of x (Idle states h)) }
+    ensures starts { (x : SubjectParts) (l : ℕ) (set : Set) → IsTagged x → IsClosed (Inner x l (status_masks x l)) set → (states : List ℕ) (h : Heap) → IsIdle x l set states h → Each (IsInside x l set) (listed (starts x states h)) }
     ensures steps { (x : SubjectParts) (l : ℕ) (set : Set) → IsTagged x → IsClosed (Inner x l (status_masks x l)) set → (at : Callback) (h : Heap) (frames : List Frame) → IsInside x l set (Running at h frames) → Each (IsInside x l set) (options_of x (Running at h frames)) }
+{}
+
+/// Where a call of the machine leads is among its targets in a call graph of the application: into a callee, or outside
+/// where the graph says so.
+pub fn call_targets()
+    ensures fits { (x : SubjectParts) (m i : ℕ) (by : By) (usage : LockUse) (arguments : Args) (given : Gives) (type : Option ℕ) → IsCallGraph x.app x.graph → act_at x.app m i ≡ Some (Call by usage arguments given) → FitsTarget (targets_at x.graph m i) (target_of x.app m by usage (named_at x.app m i) type) }
 {}
 
 /// A status is held exactly where the field owns a lock with a count above zero.
 pub fn held_statuses()
     ensures held { (n l : ℕ) (h : Heap) → IsHeap n h → (is_held (status h l) ≡ true) ↔ HoldsLock h l }
+{}
+
+/// The options of a state, of which there is always one: how many they are, and each single one, can be told without the
+/// list of them, and a step takes the one of its number.
+pub fn options_law()
+    ensures some { (x : SubjectParts) (s : State) → options_of x s ≢ [] }
+    ensures count { (x : SubjectParts) (s : State) → length (options_of x s) ≡ count_of x s }
+    ensures member { (x : SubjectParts) (s : State) (k : ℕ) → slice_get (options_of x s) k ≡ option_at x s k }
+    ensures step { (x : SubjectParts) (s : State) (k : ℕ) → option_at x s (k % count_of x s) ≡ Some (step x k s) }
 {}
 
 /// Runs of small applications by computation, so that an error which the rules share with the machine shows.
@@ -57,4 +84,16 @@ pub fn worked_runs()
     ensures receiver { ReceiverFirst }
     ensures service { ServiceFirst }
     ensures outside { OutsideEnds }
+    ensures static_call { StaticCall }
+    ensures static_return { StaticReturn }
+    ensures through { ThrowsThrough }
+    ensures overriding { PicksOverride }
+    ensures super_call { CallsSuper }
+    ensures leads_outside { LeadsOutside }
+    ensures no_receiver { NoReceiver }
+    ensures null_receiver { NullReceiver }
+    ensures rest { RestsAlone }
+    ensures counted { StartsCounted }
+    ensures first_slowest { FirstSlowest }
+    ensures no_such_start { NoSuchStart }
 {}

@@ -11,5 +11,6 @@ pub mod Steps
 pub mod Makes
 pub mod Judged
 pub mod Listed
+pub mod OutsideCalls
 pub mod PathTags
 pub mod Receivers

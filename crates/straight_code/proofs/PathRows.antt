@@ -14,7 +14,7 @@ use Rattle.app_model.specs.declared.lock_use.LockUse.TheVariants.{Plain, Make, A
 use Rattle.app_model.specs.declared.rows.MethodRow.{MethodRow}
 use Rattle.app_model.specs.declared.tag.Tag.{Tag}
 use Rattle.app_model.specs.declared.tag.Tag.TheVariants.{Bot, Zero, Solid, Held, Any, Field, New, Mixed}
-use Rattle.app_model.specs.CallGraph.{set_of, use_at, targets_at}
+use Rattle.app_model.specs.CallGraph.{TargetParts, set_of, use_at, targets_at}
 use Rattle.app_model.specs.Parts.{AppParts}
 use Rattle.app_model.specs.Sites.{site_at}
 use Rattle.app_model.specs.Subject.{row_at, outside_at, callees_at}
@@ -353,9 +353,13 @@ abbrev first_set : Option ℕ
 first_set = Some 0
 
 -- every instruction of the method leads outside alone
-pub outside_is : (app : AppParts) (i : ℕ) → i < code_len app 0 → outside_at (path_subject app) 0 i ≡ true
+-- a call there leads outside, and nowhere else
+pub outside_row : (app : AppParts) (i : ℕ) → i < code_len app 0 → targets_at (path_graph app) 0 i ≡ record { callees = []; outside = true }
 unfolding targets_at use_at path_graph
-outside_is app i below = ap (λ (u : Option (Option ℕ)). (set_of (path_graph app) u).outside) (slice_get-get_or (replicate (code_len app 0) first_set) i first_set (omega (arith, length-replicate (code_len app 0) first_set, below)) ∙ ap (λ (u : Option ℕ). Some u) (get_or-replicate (code_len app 0) i first_set first_set below))
+outside_row app i below = ap (set_of (path_graph app)) (slice_get-get_or (replicate (code_len app 0) first_set) i first_set (omega (arith, length-replicate (code_len app 0) first_set, below)) ∙ ap (λ (u : Option ℕ). Some u) (get_or-replicate (code_len app 0) i first_set first_set below))
+
+pub outside_is : (app : AppParts) (i : ℕ) → i < code_len app 0 → outside_at (path_subject app) 0 i ≡ true
+outside_is app i below = ap (λ (row : TargetParts). row.outside) (outside_row app i below)
 
 no_callees : (app : AppParts) (u : Option (Option ℕ)) → (set_of (path_graph app) u).callees ≡ []
 unfolding path_graph
@@ -364,9 +368,12 @@ no_callees app (Some None) = refl
 no_callees app (Some (Some zero)) = refl
 no_callees app (Some (Some (suc s))) = refl
 
-pub none_called : (app : AppParts) (m i : ℕ) (n : MethodNo) → Contains (callees_at (path_subject app) m i) n → ⊥
+pub no_callees_at : (app : AppParts) (m i : ℕ) → callees_at (path_subject app) m i ≡ []
 unfolding targets_at
-none_called app m i n c = omega (arith, (subst (λ (ns : List MethodNo). Contains ns n) (no_callees app (use_at (path_graph app) m i)) c).1)
+no_callees_at app m i = no_callees app (use_at (path_graph app) m i)
+
+pub none_called : (app : AppParts) (m i : ℕ) (n : MethodNo) → Contains (callees_at (path_subject app) m i) n → ⊥
+none_called app m i n c = omega (arith, (subst (λ (ns : List MethodNo). Contains ns n) (no_callees_at app m i) c).1)
 
 -- ---- the masks of the subject are those of the path
 pub passes_is : (app : AppParts) → IsSmallApp app → (plain : IsPlainBody app) → (i k s : ℕ) → i ≤ plain.last

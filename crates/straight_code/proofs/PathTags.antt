@@ -1,14 +1,17 @@
 -- The tags of the path's subject follow the code, and no lock escapes.
-use Rattle.std.proofs.Common.{◌≡◌, ◌<◌, ℕ, zero, suc, Bool, true, false, List, [], ◌∷◌, Option, Some, None, refl, sym, ap, ◌∙◌, subst, ⊎_elim, true≢false, arith, add-one, eq-or-lt_of_le}
+use Rattle.std.proofs.Common.{is_some, ◌≡◌, ◌<◌, ℕ, zero, suc, Bool, true, false, List, [], ◌∷◌, Option, Some, None, refl, sym, ap, ◌∙◌, subst, ⊎_elim, true≢false, arith, add-one, eq-or-lt_of_le}
 use Rattle.std.proofs.lemmas.Bool.{cases_lt}
 use Rattle.app_model.specs.declared.tag.Tag.{Tag}
 use Rattle.app_model.specs.Components.{callback_at}
 use Rattle.app_model.specs.Parts.{AppParts}
 use Rattle.app_model.specs.Sites.{site_at}
-use Rattle.app_model.specs.Subject.{SubjectParts, outside_at, row_at}
-use Rattle.app_model.specs.Words.{code_len, successor_at, handler_at}
+use Rattle.app_model.specs.Subject.{SubjectParts, is_reached, row_at}
+use Rattle.app_model.specs.CallGraph.{targets_at}
+use Rattle.app_model.specs.LockUse.{invoke_of}
+use Rattle.app_model.specs.Targets.{targets_in}
+use Rattle.app_model.specs.Words.{code_len, ins_at, successor_at, handler_at}
 use Rattle.act_model.specs.declared.act.Act.{Act}
-use Rattle.act_model.specs.declared.act.Act.TheVariants.{Return, Call}
+use Rattle.act_model.specs.declared.act.Act.TheVariants.{Return}
 use Rattle.act_model.specs.declared.act.Returned.TheVariants.{Nothing}
 use Rattle.act_model.specs.Acts.{act_at}
 use Rattle.act_model.specs.Changes.{after}
@@ -16,12 +19,13 @@ use Rattle.act_model.specs.Tags.{itself}
 use Rattle.flow_model.specs.Scope.{is_escape, is_wrong_call}
 use Rattle.flow_model.proofs.TestLaws.{none_some}
 use Rattle.flow_model.specs.TagFlow.{leads_on}
-use Rattle.run_model.specs.Tagged.{IsTagged, IsEntered, IsUnder}
+use Rattle.run_model.specs.Tagged.{IsTagged, IsUnder}
 use Rattle.straight_code.specs.Body.{IsPlainBody}
 use Rattle.straight_code.specs.Path.{row_before, row_after, path_subject, receiver}
 use Rattle.straight_code.specs.Scope.{IsInScope}
 use Rattle.straight_code.specs.Verdict.{IsSmallApp}
-use Rattle.straight_code.proofs.PathRows.{outside_is, row_is}
+use Rattle.straight_code.proofs.OutsideCalls.{path_targets}
+use Rattle.straight_code.proofs.PathRows.{no_callees_at, row_is}
 use Rattle.straight_code.proofs.Plain.{one_way, no_handler, returns_last, no_handler_past, no_act_past}
 
 under_itself : (row : List Tag) → IsUnder row row
@@ -44,8 +48,14 @@ module _ (app : AppParts) (small : IsSmallApp app) (plain : IsPlainBody app) (sc
   abbrev x : SubjectParts
   x = path_subject app
 
-  entered_zero : (m : ℕ) → IsEntered x m → m ≡ 0
-  entered_zero m e = the_callback e.component e.callback m e.is
+  reached_zero : (m : ℕ) → is_reached x m ≡ true → m ≡ 0
+  unfolding is_reached
+  reached_zero zero e = refl
+  reached_zero (suc m) e = absurd (true≢false (sym e))
+
+  zero_reached : (m : ℕ) → m ≡ 0 → is_reached x m ≡ true
+  unfolding is_reached
+  zero_reached m z = rw z refl
 
   -- ---- acts stand before the end, and those that lead on before the return
   within : (i : ℕ) (a : Act) → act_at app 0 i ≡ Some a → i < code_len app 0
@@ -80,13 +90,15 @@ module _ (app : AppParts) (small : IsSmallApp app) (plain : IsPlainBody app) (sc
 
   pub path_tagged : IsTagged x
   path_tagged = record {
-    entries = λ m e. subst (λ n. IsUnder (row_before app n 0) (row_at x n 0)) (sym (entered_zero m e)) begins;
-    flows = λ m i k j a e live there leads next. let z = entered_zero m e in
+    callbacks = λ c k m is. zero_reached m (the_callback c k m is);
+    entries = λ c k m is. subst (λ n. IsUnder (row_before app n 0) (row_at x n 0)) (sym (the_callback c k m is)) begins;
+    flows = λ m i k j a e live there leads next. let z = reached_zero m e in
         subst (λ n. IsUnder (after (site_at app n i) a (row_at x n i)) (row_at x n j)) (sym z)
         (flows_on i k j a (subst (λ n. act_at app n i ≡ Some a) z there) leads (subst (λ n. successor_at app n i k ≡ Some j) z next));
-    throws = λ m i k j a e live there can handler. absurd (uncaught i k j (subst (λ n. handler_at app n i k ≡ Some j) (entered_zero m e) handler));
-    no_escape = λ m i e. subst (λ n. is_escape (act_at app n i) (row_at x n i) ≡ false) (sym (entered_zero m e)) (safe_act i).0;
-    no_wrong_call = λ m i e. subst (λ n. is_wrong_call (act_at app n i) (row_at x n i) ≡ false) (sym (entered_zero m e)) (safe_act i).1;
-    outside = λ m i by usage arguments gives e there. let z = entered_zero m e in
-        subst (λ n. outside_at x n i ≡ true) (sym z) (outside_is app i (within i (Call by usage arguments gives) (subst (λ n. act_at app n i ≡ Some (Call by usage arguments gives)) z there)));
+    throws = λ m i k j a e live there can handler. absurd (uncaught i k j (subst (λ n. handler_at app n i k ≡ Some j) (reached_zero m e) handler));
+    no_escape = λ m i e. subst (λ n. is_escape (act_at app n i) (row_at x n i) ≡ false) (sym (reached_zero m e)) (safe_act i).0;
+    no_wrong_call = λ m i e. subst (λ n. is_wrong_call (act_at app n i) (row_at x n i) ≡ false) (sym (reached_zero m e)) (safe_act i).1;
+    graph = λ m i e is. let z = reached_zero m e in
+        subst (λ n. targets_at x.graph n i ≡ targets_in x.app n i) (sym z) (path_targets app small plain i (subst (λ n. is_some (invoke_of (ins_at app n i)) ≡ true) z is));
+    alone = λ m i e. no_callees_at app m i;
   }

@@ -1,5 +1,5 @@
 -- What follows for straight-line code from its form.
-use Rattle.std.proofs.Common.{◌≡◌, ℕ, zero, suc, ◌<◌, ◌≤◌, ◌+◌, ◌==◌, if◌then◌else◌, Bool, true, false, List, Option, Some, None, refl, sym, ◌∙◌, subst, true≢false, arith}
+use Rattle.std.proofs.Common.{◌≡◌, ℕ, zero, suc, ◌<◌, ◌≤◌, ◌+◌, ◌==◌, if◌then◌else◌, Bool, true, false, List, Option, Some, None, refl, sym, ap, ◌∙◌, subst, true≢false, arith}
 use Rattle.dalvik.specs.declared.ins.Ins.{Ins}
 use Rattle.dalvik.specs.declared.ins.Ins.TheVariants as ins
 use Rattle.dalvik.specs.declared.body.Place.{Place}
@@ -125,6 +125,9 @@ no_way_past app i k j l h = none_goes_on (place_at app 0 i) k j (no_place app i 
 
 pub no_handler_past : (app : AppParts) (i k j : ℕ) → code_len app 0 ≤ i → handler_at app 0 i k ≡ Some j → ⊥
 no_handler_past app i k j l h = none_catches (place_at app 0 i) k j (no_place app i l) h
+
+pub no_ins_past : (app : AppParts) (i : ℕ) → code_len app 0 ≤ i → ins_at app 0 i ≡ None
+no_ins_past app i l = ap ins_of (no_place app i l)
 
 act_of_none : (app : AppParts) (i : ℕ) (p : Option Place) → p ≡ None → act_by app 0 i (ins_of p) ≡ None
 act_of_none app i None p = refl

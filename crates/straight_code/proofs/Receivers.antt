@@ -49,9 +49,9 @@ parent_of app name (Some parent) h = (parent, refl, λ same. true≢false (sym (
 at_most : (m n : ℕ) → nat_le m n ≡ true → m ≤ n
 at_most m n h = grind (arith, nat_tests)
 
-fits_by : (app : AppParts) (o : Option MethodRow) (method : MethodRow) → o ≡ Some method → is_callback app o ≡ true → method.ins ≤ method.registers
-fits_by app None method eq h = absurd (none_some method None refl eq)
-fits_by app (Some other) method eq h = subst (λ (m : MethodRow). m.ins ≤ m.registers) (same eq) (omega (arith, three, at_least))
+method_facts : (app : AppParts) (o : Option MethodRow) (method : MethodRow) → o ≡ Some method → is_callback app o ≡ true → (method.ins ≤ method.registers) × (name_text app method.name.0 ≡ codes "onReceive")
+method_facts app None method eq h = absurd (none_some method None refl eq)
+method_facts app (Some other) method eq h = subst (λ (m : MethodRow). (m.ins ≤ m.registers) × (name_text app m.name.0 ≡ codes "onReceive")) (same eq) (omega (arith, three, at_least), same_text _ (codes "onReceive") called)
   where
     same : Some other ≡ Some method → other ≡ method
     same p = cc
@@ -71,6 +71,14 @@ fits_by app (Some other) method eq h = subst (λ (m : MethodRow). m.ins ≤ m.re
     at_least : 3 ≤ other.registers
     at_least = at_most 3 other.registers all.1
 
+    named : Bool
+    named =
+        bytes_eq (name_text app other.name.0) (codes "onReceive")
+        && is_proto app other.proto.0 (codes "V") (codes "Landroid/content/Context;" ∷ codes "Landroid/content/Intent;" ∷ [])
+
+    called : bytes_eq (name_text app other.name.0) (codes "onReceive") ≡ true
+    called = (both (bytes_eq (name_text app other.name.0) (codes "onReceive")) _ (both named (bit_and other.flags 0x508 == 0) (both front (other.ins == 3) all.0).0).0).0
+
 small_by : (app : AppParts) (name : List ℕ) → (length app.classes ≡ 1) → (length app.methods ≡ 1) → (length app.locks ≡ 1)
     → is_receiver_class app name (slice_get app.classes 0) ≡ true → is_callback app (slice_get app.methods 0) ≡ true → IsSmallApp app
 small_by app name classes methods locks class callback =
@@ -78,6 +86,7 @@ small_by app name classes methods locks class callback =
     let m = one_of app.methods methods in
     let facts = class_facts app name (slice_get app.classes 0) c.0 (ap (λ (cs : List ClassParts). slice_get cs 0) c.1) class in
     let parent = parent_of app name c.0.parent facts.1 in
+    let method = method_facts app (slice_get app.methods 0) m.0 (ap (λ (ms : List MethodRow). slice_get ms 0) m.1) callback in
     record {
       class = c.0;
       parent = parent.0;
@@ -87,7 +96,8 @@ small_by app name classes methods locks class callback =
       other = λ same. parent.2 (same ∙ facts.0);
       interfaces = facts.2;
       methods = m.1;
-      fits = fits_by app (slice_get app.methods 0) m.0 (ap (λ (ms : List MethodRow). slice_get ms 0) m.1) callback;
+      called = method.1;
+      fits = method.0;
       locks = locks;
     }
 

@@ -1,9 +1,9 @@
 -- The judgement of a receiver of straight-line code: not of the form, or its violations.
-use Rattle.std.specs.Prelude.{ℕ, zero, suc, ◌≡◌, ◌<◌, ◌≤◌, ◌↔◌, List, [], ◌∷◌, ◌++◌, if◌then◌else◌, length, true, Option, Some, None, slice_index}
+use Rattle.std.specs.Prelude.{ℕ, zero, suc, ◌≡◌, ◌<◌, ◌≤◌, ◌↔◌, List, [], ◌∷◌, ◌++◌, if◌then◌else◌, length, true, codes, Option, Some, None, slice_index}
 use Rattle.ns_base.specs.declared.rows.TypeNo.{TypeNo}
 use Rattle.app_model.specs.declared.rows.MethodRow.{MethodRow}
 use Rattle.app_model.specs.Parts.{AppParts, ClassParts}
-use Rattle.app_model.specs.Names.{type_text}
+use Rattle.app_model.specs.Names.{name_text, type_text}
 use Rattle.app_model.specs.Masks.{in_mask, is_held}
 use Rattle.app_model.specs.Subject.{SubjectParts, slot_count}
 use Rattle.flow_model.specs.Derived.{Set, HasAll, IsClosed}
@@ -18,7 +18,8 @@ use Rattle.straight_code.specs.Reached.{IsReached, steps_of}
 use Rattle.straight_code.specs.Path.{path_subject}
 use Rattle.straight_code.specs.Scope.{IsInScope}
 
--- one class without interfaces, whose superclass has another name; one method, whose arguments fit its registers; one lock field
+-- one class without interfaces, whose superclass has another name; one method, of the callback's name, whose arguments fit
+-- its registers; one lock field
 pub record IsSmallApp (app : AppParts) : Type 0 where
   pub class : ClassParts
   pub parent : TypeNo
@@ -28,6 +29,7 @@ pub record IsSmallApp (app : AppParts) : Type 0 where
   pub other : ¬ (type_text app parent.0 ≡ type_text app class.name.0)
   pub interfaces : class.interfaces ≡ []
   pub methods : app.methods ≡ method ∷ []
+  pub called : name_text app method.name.0 ≡ codes "onReceive"
   pub fits : method.ins ≤ method.registers
   pub locks : length app.locks ≡ 1
 

@@ -1,4 +1,4 @@
-use Rattle.run_model.proofs.Worked.{lock_runs, plain_runs}
+use Rattle.run_model.proofs.Worked.{call_runs, lock_runs, plain_runs}
 use Rattle.run_model.proofs.laws.worked_runs.Goals as goal
 
 pub returns-clause-division : goal.returns-clause-division
@@ -69,3 +69,39 @@ returns-clause-service c = lock_runs.service
 
 pub returns-clause-outside : goal.returns-clause-outside
 returns-clause-outside c = lock_runs.outside
+
+pub returns-clause-static_call : goal.returns-clause-static_call
+returns-clause-static_call c = call_runs.static_call
+
+pub returns-clause-static_return : goal.returns-clause-static_return
+returns-clause-static_return c = call_runs.static_return
+
+pub returns-clause-through : goal.returns-clause-through
+returns-clause-through c = call_runs.through
+
+pub returns-clause-overriding : goal.returns-clause-overriding
+returns-clause-overriding c = call_runs.overriding
+
+pub returns-clause-super_call : goal.returns-clause-super_call
+returns-clause-super_call c = call_runs.super_call
+
+pub returns-clause-leads_outside : goal.returns-clause-leads_outside
+returns-clause-leads_outside c = call_runs.leads_outside
+
+pub returns-clause-no_receiver : goal.returns-clause-no_receiver
+returns-clause-no_receiver c = call_runs.no_receiver
+
+pub returns-clause-null_receiver : goal.returns-clause-null_receiver
+returns-clause-null_receiver c = call_runs.null_receiver
+
+pub returns-clause-rest : goal.returns-clause-rest
+returns-clause-rest c = call_runs.rest
+
+pub returns-clause-counted : goal.returns-clause-counted
+returns-clause-counted c = call_runs.counted
+
+pub returns-clause-first_slowest : goal.returns-clause-first_slowest
+returns-clause-first_slowest c = call_runs.first_slowest
+
+pub returns-clause-no_such_start : goal.returns-clause-no_such_start
+returns-clause-no_such_start c = call_runs.no_such_start
