@@ -1,5 +1,0 @@
-use Rattle.call_targets.proofs.Assigned.{one_bit}
-use Rattle.call_targets.proofs.assigning.bit_of.Goals as goal
-
-pub returns-then-lock-lt64 : goal.returns-then-lock-lt64
-returns-then-lock-lt64 c = λ l within. one_bit c.args.lock.0 c.if-lock-lt64.true l within

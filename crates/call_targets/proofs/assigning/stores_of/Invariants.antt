@@ -1,5 +1,0 @@
-use Rattle.call_targets.proofs.Assigned.{AreOwn}
-use Rattle.call_targets.proofs.assigning.stores_of.Given as goal
-
-abbrev pub invariant-loop-index : goal.invariant-loop-index
-invariant-loop-index l = AreOwn l.app l.method.0 l.index l.mask

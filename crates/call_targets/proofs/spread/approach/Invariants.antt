@@ -1,5 +1,0 @@
-use Rattle.call_targets.specs.Spread.{Keeps}
-use Rattle.call_targets.proofs.spread.approach.Given as goal
-
-abbrev pub invariant-loop-step : goal.invariant-loop-step
-invariant-loop-step l = Keeps l.links l.fn.words l.words

@@ -1,5 +1,0 @@
-use Rattle.call_targets.proofs.Turns.{spread_after}
-use Rattle.call_targets.proofs.spread.spread.Goals as goal
-
-pub returns : goal.returns
-returns c = spread_after _ _ _ _ c.approach.ensures c.close.ensures

@@ -1,5 +1,0 @@
-use Rattle.call_targets.specs.Spread.{Turn, PassedBelow}
-use Rattle.call_targets.proofs.spread.sweep.Given as goal
-
-abbrev pub invariant-loop-place : goal.invariant-loop-place
-invariant-loop-place l = Turn l.links (PassedBelow l.links l.place) l.fn.words l.words l.changed

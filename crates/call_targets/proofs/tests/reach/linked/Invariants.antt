@@ -1,5 +1,0 @@
-use Rattle.call_targets.specs.Spread.{AreWithin}
-use Rattle.call_targets.proofs.tests.reach.linked.Given as goal
-
-abbrev pub invariant-loop-i : goal.invariant-loop-i
-invariant-loop-i l = AreWithin 6 l.links
