@@ -1,0 +1,4 @@
+pub mod Below
+pub mod Numbered
+pub mod Signatures
+pub mod Sources
