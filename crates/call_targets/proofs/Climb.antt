@@ -15,6 +15,7 @@ use Rattle.app_model.specs.Targets.{found_virtually}
 use Rattle.class_graph.proofs.Climbs.{enough, no_line}
 use Rattle.class_graph.proofs.Lists.{any_found, any_there, class_known, read_of, same_test, there_at}
 use Rattle.call_targets.specs.Below.{is_root, is_root_below, may_be, may_be_at}
+use Rattle.call_targets.specs.Looking.{AreCandidates, begins, begins_at, look_at, look_in}
 
 abbrev pub class_no : ℕ → ClassNo
 class_no c = record { 0 = c }
@@ -37,23 +38,8 @@ short_line classes zero o = omega arith
 short_line classes (suc n) None = omega arith
 short_line classes (suc n) (Some c) = omega (arith, short_line classes n (superclass_at classes c))
 
--- what a look-up finds in a class given by number
-abbrev pub look_in : AppParts → (name proto : ℕ) → Option ClassParts → Option ℕ
-look_in app name proto None = None
-look_in app name proto (Some class) = lookup_of app class.name.0 name proto
-
-abbrev pub look_at : AppParts → (name proto : ℕ) → ClassNo → Option ℕ
-look_at app name proto c = look_in app name proto (slice_get app.classes c.0)
-
 abbrev pub found_in : AppParts → (name proto : ℕ) → ClassParts → Option ℕ
 found_in app name proto class = lookup_of app class.name.0 name proto
-
-abbrev pub begins_at : Option ℕ → List (Option ℕ)
-begins_at o = if is_none o then None ∷ [] else []
-
--- the outside, where the type is none of the application's
-abbrev pub begins : AppParts → (kind : ℕ) → List (Option ℕ)
-begins app kind = begins_at (class_of_type app.classes kind)
 
 module _ (app : AppParts) (sound : IsSoundApp app) (kind name proto : ℕ) where
   abbrev classes : List ClassParts
@@ -90,13 +76,7 @@ module _ (app : AppParts) (sound : IsSoundApp app) (kind name proto : ℕ) where
   class_may c class e h =
       get_or-map (may_be app kind) classes c class false (slice_get_within classes c class e) ∙ ap (may_be app kind) (get_or_from_slice_get classes c class class e) ∙ h
 
-  -- the candidates: classes that may be of the type, among them the roots and those that declare the method
-  pub record AreCandidates (cs : List ClassNo) : Type 0 where
-    pub each : (d : ClassNo) → Contains cs d → may_be_at app kind d.0 ≡ true
-    pub declared : (c n : ℕ) → may_be_at app kind c ≡ true → method_in app name proto c ≡ Some n → Contains cs (class_no c)
-    pub roots : (c : ℕ) → may_be_at app kind c ≡ true → is_root app kind c ≡ true → Contains cs (class_no c)
-
-  module _ (cs : List ClassNo) (all : AreCandidates cs) where
+  module _ (cs : List ClassNo) (all : AreCandidates app kind name proto cs) where
     -- a candidate finds what class c finds, or c leads outside as the named class does
     abbrev IsAnswered : ℕ → Type 0
     IsAnswered c = ((r : ℕ) × Contains cs (class_no r) × (finds r ≡ finds c)) ⊎ ((finds c ≡ None) × (class_of_type classes kind ≡ None))

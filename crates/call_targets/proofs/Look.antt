@@ -26,8 +26,8 @@ use Rattle.call_targets.specs.Signatures.{AreDeclared, classes_with}
 use Rattle.call_targets.specs.Sources.{found_from, named_parts, row_from}
 use Rattle.call_targets.specs.declared.declared.Signature.{Signature}
 use Rattle.call_targets.specs.declared.sources.Source.{Source}
-use Rattle.call_targets.specs.declared.sources.Way.TheVariants.{Outside}
-use Rattle.call_targets.proofs.Climb.{any_filter, any_map, begins, begins_at, class_no, found_in}
+use Rattle.call_targets.specs.Looking.{begins, begins_at}
+use Rattle.call_targets.proofs.Climb.{any_filter, any_map, class_no, found_in}
 
 -- ---- rows
 pub row_same : (n : ℕ) (xs ys : List (Option ℕ)) → ((p : Option ℕ → Bool) → list_any p xs ≡ list_any p ys) → row_of n xs ≡ row_of n ys
@@ -36,9 +36,9 @@ row_same n xs ys h =
     ap₂ (λ (ns : List ℕ) (b : Bool). let row : TargetParts = record { callees = map method_no ns; outside = b } in row)
     (filter_agree (finds xs) (finds ys) (λ k. h (is_method k)) (range_with_len 0 n)) (h is_none)
 
-pub foreign_row : (app : AppParts) (m op : ℕ) (named : Named) (source : Source) → is_foreign app op named ≡ true → source.way ≡ Outside → row_from app source ≡ targets_of_call app m op named
+pub foreign_row : (app : AppParts) (m op : ℕ) (named : Named) (source : Source) → is_foreign app op named ≡ true → found_from app source ≡ None ∷ [] → row_from app source ≡ targets_of_call app m op named
 unfolding row_from targets_of_call found_of
-foreign_row app m op named source f w = rw (f, w) refl
+foreign_row app m op named source f w = ap (row_of (length app.methods)) w ∙ rw f refl
 
 pub plain_row : (app : AppParts) (m op : ℕ) (named : Named) (source : Source) (by : By) → is_foreign app op named ≡ false → by ≡ call_by op
     → row_from app source ≡ row_of (length app.methods) (found_by app m by named) → row_from app source ≡ targets_of_call app m op named

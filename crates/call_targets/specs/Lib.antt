@@ -1,4 +1,7 @@
+pub mod Answers
 pub mod Below
+pub mod Looking
+pub mod Made
 pub mod Numbered
 pub mod Signatures
 pub mod Sources

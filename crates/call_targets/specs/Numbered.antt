@@ -13,8 +13,6 @@ use Rattle.call_targets.specs.Sources.{key_parts, row_from}
 use Rattle.call_targets.specs.declared.numbers.SetRow.{SetRow}
 use Rattle.call_targets.specs.declared.sources.Key.{Key}
 use Rattle.call_targets.specs.declared.sources.Source.{Source}
-use Rattle.call_targets.specs.declared.sources.Way.{Way}
-use Rattle.call_targets.specs.declared.sources.Way.TheVariants.{Outside, One, Below}
 
 -- the keys with the number of each one's set, the sources with the same, and the sets
 pub record TableParts : Type 0 where
@@ -25,19 +23,8 @@ pub record TableParts : Type 0 where
 abbrev pub same_parts : Key → Key → Bool
 same_parts a b = a.kind == b.kind && (option_eq (λ x y. x == y) a.caller b.caller && (a.class == b.class && (a.name == b.name && a.proto == b.proto)))
 
-abbrev pub same_way : Way → Way → Bool
-same_way Outside Outside = true
-same_way Outside One = false
-same_way Outside Below = false
-same_way One Outside = false
-same_way One One = true
-same_way One Below = false
-same_way Below Outside = false
-same_way Below One = false
-same_way Below Below = true
-
 abbrev pub same_source : Source → Source → Bool
-same_source a b = same_way a.way b.way && (a.class == b.class && (a.name == b.name && a.proto == b.proto))
+same_source a b = option_eq (λ x y. x == y) a.one b.one && (option_eq (λ x y. x == y) a.below b.below && (a.name == b.name && a.proto == b.proto))
 
 abbrev pub number_in : List (Key × ℕ) → Key → Option ℕ
 number_in keys key = lookup (same_parts key) keys

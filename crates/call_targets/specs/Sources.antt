@@ -1,5 +1,5 @@
 -- What decides what a call can call. Calls of one source can call the same.
-use Rattle.std.specs.Prelude.{ℕ, ◌≡◌, ◌<◌, List, [], ◌∷◌, length, true, Option, None, IfSome}
+use Rattle.std.specs.Prelude.{ℕ, ◌≡◌, ◌<◌, List, [], ◌∷◌, length, true, Option, Some, None, IfSome}
 use Rattle.std.specs.declared.alloc.Global.{Global}
 use Rattle.std.specs.declared.vec.Vec.{Vec}
 use Rattle.ns_base.specs.declared.rows.ClassNo.{ClassNo}
@@ -13,20 +13,18 @@ use Rattle.call_targets.specs.Signatures.{AreDeclared}
 use Rattle.call_targets.specs.declared.declared.Signature.{Signature}
 use Rattle.call_targets.specs.declared.sources.Key.{Key}
 use Rattle.call_targets.specs.declared.sources.Source.{Source}
-use Rattle.call_targets.specs.declared.sources.Way.{Way}
-use Rattle.call_targets.specs.declared.sources.Way.TheVariants.{Outside, One, Below}
 
 abbrev pub named_parts : (class name proto : ℕ) → Named
 named_parts class name proto = record { class = record { 0 = class }; name = record { 0 = name }; proto = record { 0 = proto } }
 
 -- what is found
-abbrev pub found_by_way : AppParts → Way → (class name proto : ℕ) → List (Option ℕ)
-found_by_way app Outside class name proto = None ∷ []
-found_by_way app One class name proto = lookup_of app class name proto ∷ []
-found_by_way app Below class name proto = found_virtually app 0 (named_parts class name proto)
+abbrev pub found_by : AppParts → (one below : Option ℕ) → (name proto : ℕ) → List (Option ℕ)
+found_by app None None name proto = None ∷ []
+found_by app None (Some kind) name proto = found_virtually app 0 (named_parts kind name proto)
+found_by app (Some class) below name proto = lookup_of app class name proto ∷ []
 
 abbrev pub found_from : AppParts → Source → List (Option ℕ)
-found_from app source = found_by_way app source.way source.class source.name source.proto
+found_from app source = found_by app source.one source.below source.name source.proto
 
 unfoldable pub row_from : AppParts → Source → TargetParts
 row_from app source = row_of (length app.methods) (found_from app source)

@@ -74,6 +74,14 @@ pub(crate) fn find_below(alloc: Global, app: &App, classes: &ClassGraph, kind: T
 }
 
 impl Below {
+    /// No classes.
+    pub fn none(alloc: Global) -> Below {
+        Below {
+            marks: Vec::new(alloc),
+            roots: Vec::new(alloc),
+        }
+    }
+
     /// The roots, and those of the declaring classes that are marked. What a look-up finds in any
     /// marked class, one in these finds.
     #[tactic(auto, using(crate::proofs::Roots::passed_on, crate::proofs::Roots::passed_over))]

@@ -1,11 +1,20 @@
 //! What each call of an application can call, found without a walk over all classes for each named method.
+//!
+//! - `sources` tells what decides what a call can call, `declared` which classes declare a method.
+//! - `numbers` goes over the instructions once and numbers the sets that calls share.
+//! - `below` has the classes that a receiver may have, and `found` makes a set of what look-ups find.
+//! - `looking` looks up one set, and `making` makes them all, and counts their entries.
 #![tactic(auto)]
 
 mod below;
+mod building;
 mod declared;
 mod fault;
 mod found;
+mod looking;
+mod making;
 mod numbers;
 mod sources;
 
+pub use building::targets;
 pub use fault::TargetFault;

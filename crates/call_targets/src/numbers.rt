@@ -3,7 +3,8 @@ ghost use Rattle.std.specs.Prelude.{◌≡◌, ◌<◌, ℕ, IfOk, IfSome, Some,
 ghost use Rattle.app_model.specs.Parts.{AppParts};
 ghost use Rattle.app_model.specs.Sound.{IsType};
 ghost use Rattle.app_model.specs.Targets.{CallAt, key_at, targets_of_call};
-ghost use Rattle.app_model.specs.Words.{code_len};
+ghost use Rattle.app_model.specs.LockUse.{invoke_of};
+ghost use Rattle.app_model.specs.Words.{code_len, ins_at};
 ghost use Rattle.call_targets.specs.Sources.{IsIndex, key_parts, row_from};
 ghost use Rattle.call_targets.specs.Numbered.{Adds, AddsCall, AddsSource, AreUses, IsNumbered, IsSet, IsTable, AddsUse, AddsUses, number_in, one_more, with_rows};
 
@@ -80,12 +81,13 @@ impl Table {
         if let Some(number) = self.sources.get(&source).copied() {
             return Ok(number);
         }
-        let Ok(number) = u32::try_from(self.rows.len()) else {
+        let number = self.rows.len();
+        if number > u32::MAX as usize {
             return Err(AllocError);
-        };
+        }
         self.rows.push(SetRow { source, keys: 0 })?;
-        self.sources.insert(source, number)?;
-        Ok(number)
+        self.sources.insert(source, number as u32)?;
+        Ok(number as u32)
     }
 
     // One more key for a set. More keys than can be counted are taken for want of memory.
@@ -135,6 +137,18 @@ fn number_named(app: &App, index: &Index, table: &mut Table, method: MethodNo, o
     }
 }
 
+// The opcode of an instruction that is an invoke.
+fn invoked(app: &App, method: MethodNo, i: u32) -> Option<u8>
+    requires method { method.0 < length app.now.methods }
+    requires i { i < code_len app.now method.0 }
+    ensures { result ≡ invoke_of (ins_at app.now method.0 i) }
+{
+    match app.ins(method, i).1 {
+        Ins::Invoke { op, .. } => Some(op),
+        _ => None,
+    }
+}
+
 // What an instruction uses: the set of its call, or nothing where it is none.
 fn number_call(app: &App, index: &Index, table: &mut Table, method: MethodNo, i: u32) -> Result<Option<u32>, AllocError>
     requires index { IsIndex app.now index.now }
@@ -143,7 +157,7 @@ fn number_call(app: &App, index: &Index, table: &mut Table, method: MethodNo, i:
     requires i { i < code_len app.now method.0 }
     ensures { IfOk result (λ used. AddsUse app.now method.0 i table.old table.new used) }
 {
-    let (_, Ins::Invoke { op, .. }) = app.ins(method, i) else {
+    let Some(op) = invoked(app, method, i) else {
         return Ok(None);
     };
     match app.named(method, i) {

@@ -23,23 +23,12 @@ pub(crate) struct Key {
     pub proto: u32,
 }
 
-/// Where targets are looked up.
-#[derive(Clone, Copy, PartialEq, Eq, Hash)]
-pub(crate) enum Way {
-    /// Nowhere: the call leads outside.
-    Outside,
-    /// In one class, and those above it.
-    One,
-    /// In all classes that an object of the type may be of.
-    Below,
-}
-
-/// What decides what a call can call: the number of a type, where to look up from it, and a name and
-/// prototype.
+/// What decides what a call can call: a name and prototype, looked up from type `one`, or in all classes
+/// that an object of type `below` may be of. With neither the call leads outside.
 #[derive(Clone, Copy, PartialEq, Eq, Hash)]
 pub(crate) struct Source {
-    pub way: Way,
-    pub class: u32,
+    pub one: Option<u32>,
+    pub below: Option<u32>,
     pub name: u32,
     pub proto: u32,
 }
@@ -134,12 +123,12 @@ fn is_foreign(app: &App, op: u8, named: Named) -> bool
     is_on_array(app, named) || app.use_of(op, named) != LockUse::Plain
 }
 
-fn make_source(way: Way, class: TypeNo, named: Named) -> Source
-    ensures { result ≡ record { way = way; class = class.0; name = named.name.0; proto = named.proto.0 } }
+fn make_source(one: Option<u32>, below: Option<u32>, named: Named) -> Source
+    ensures { result ≡ record { one = one; below = below; name = named.name.0; proto = named.proto.0 } }
 {
     Source {
-        way,
-        class: class.0,
+        one,
+        below,
         name: named.name.0,
         proto: named.proto.0,
     }
@@ -152,8 +141,8 @@ fn one_source(app: &App, class: TypeNo, named: Named) -> Source
 {
     app.told();
     match app.class_of_type(class) {
-        Some(_) => make_source(Way::One, class, named),
-        None => make_source(Way::Outside, class, named),
+        Some(_) => make_source(Some(class.0), None, named),
+        None => make_source(None, None, named),
     }
 }
 
@@ -165,7 +154,7 @@ fn super_source(app: &App, method: MethodNo, named: Named) -> Source
 {
     match app.class(app.method(method).class).parent {
         Some(class) => one_source(app, class, named),
-        None => make_source(Way::Outside, named.class, named),
+        None => make_source(None, None, named),
     }
 }
 
@@ -177,11 +166,11 @@ fn receiver_source(app: &App, index: &Index, named: Named) -> Source
 {
     app.told();
     if index.declared.classes(named.name, named.proto).is_none() {
-        return make_source(Way::Outside, named.class, named);
+        return make_source(None, None, named);
     }
     match index.unknown {
-        Some(unknown) if is_unknown(app, named.class) => make_source(Way::Below, unknown, named),
-        _ => make_source(Way::Below, named.class, named),
+        Some(unknown) if is_unknown(app, named.class) => make_source(None, Some(unknown.0), named),
+        _ => make_source(None, Some(named.class.0), named),
     }
 }
 
@@ -193,7 +182,7 @@ pub(crate) fn source_of(app: &App, index: &Index, op: u8, method: MethodNo, name
     ensures { row_from app.now result ≡ spec.targets_of_call app.now method.0 op named }
 {
     if is_foreign(app, op, named) {
-        return make_source(Way::Outside, named.class, named);
+        return make_source(None, None, named);
     }
     match call_by(op) {
         By::Virtual => receiver_source(app, index, named),
