@@ -1,20 +1,18 @@
 -- What a look-up finds in any class that a receiver may have, it finds in one of the candidates.
-use Rattle.std.proofs.Common.{◌≡◌, ℕ, zero, suc, ◌+◌, ◌<◌, ◌≤◌, ◌||◌, ◌&&◌, Bool, true, false, List, [], ◌∷◌, ◌++◌, length, map, refl, sym, ap, ap₂, ◌∙◌, inl, inr, ⊎_elim, arith, Contains, Option, Some, None, slice_get, get_or}
-use Rattle.std.specs.Prelude.{◌⊎◌, if◌then◌else◌, is_none, not}
-use Rattle.std.specs.List.{All, filter, list_any}
-use Rattle.std.proofs.lemmas.Bool.{cases_Bool, cases_lt, false≢true, or_cases, or_left, or_right, and_parts}
+use Rattle.std.proofs.Common.{◌≡◌, ℕ, zero, suc, ◌<◌, ◌≤◌, ◌||◌, ◌&&◌, Bool, true, false, List, [], ◌∷◌, ◌++◌, length, map, refl, sym, ap, ap₂, ◌∙◌, inl, inr, ⊎_elim, arith, Contains, Option, Some, None, slice_get}
+use Rattle.std.specs.Prelude.{◌⊎◌, is_none, not}
+use Rattle.std.specs.List.{filter, list_any}
+use Rattle.std.proofs.lemmas.Bool.{cases_Bool, false≢true, or_cases, or_left, or_right, and_parts}
 use Rattle.std.proofs.lemmas.List.{get_or_past, get_or-map, length-map}
 use Rattle.std.proofs.lemmas.List.Folds.{list_any-append}
-use Rattle.std.proofs.lemmas.Option.{get_or_from_slice_get, slice_get-get_or, slice_get_within, slice_get_cases}
+use Rattle.std.proofs.lemmas.Option.{get_or_from_slice_get, slice_get_within, slice_get_cases}
 use Rattle.ns_base.specs.declared.rows.ClassNo.{ClassNo}
-use Rattle.app_model.specs.declared.rows.Named.{Named}
 use Rattle.app_model.specs.Hierarchy.{class_of_type, line, line_of, lookup_of, method_in, nearest, or_else, superclass_at}
 use Rattle.app_model.specs.Parts.{AppParts, ClassParts}
 use Rattle.app_model.specs.Sound.{IsSoundApp}
-use Rattle.app_model.specs.Targets.{found_virtually}
 use Rattle.class_graph.proofs.Climbs.{enough, no_line}
 use Rattle.class_graph.proofs.Lists.{any_found, any_there, class_known, read_of, same_test, there_at}
-use Rattle.call_targets.specs.Below.{is_root, is_root_below, may_be, may_be_at}
+use Rattle.call_targets.specs.Below.{is_root_below, may_be, may_be_at}
 use Rattle.call_targets.specs.Looking.{AreCandidates, begins, begins_at, look_at, look_in}
 
 abbrev pub class_no : ℕ → ClassNo

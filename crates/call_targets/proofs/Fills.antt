@@ -1,17 +1,15 @@
 -- Sets, made one by one.
-use Rattle.std.proofs.Common.{◌≡◌, ℕ, zero, suc, ◌+◌, ◌*◌, ◌<◌, ◌≤◌, Bool, true, false, List, [], ◌∷◌, ◌++◌, length, map, refl, sym, ap, ap₂, ◌∙◌, ⊎_elim, arith, get_or, Option, Some, None, option_map, slice_get, slice_set, replicate, subst}
+use Rattle.std.proofs.Common.{◌≡◌, ℕ, zero, suc, ◌+◌, ◌*◌, ◌<◌, ◌≤◌, Bool, true, false, List, [], ◌∷◌, length, refl, sym, ap, ap₂, ◌∙◌, ⊎_elim, arith, get_or, Some, slice_get, slice_set, replicate, subst}
 use Rattle.std.specs.Prelude.{if◌then◌else◌}
-use Rattle.std.proofs.lemmas.Bool.{false≢true}
 use Rattle.std.proofs.lemmas.Option.{same_Some, slice_get-get_or, slice_get_cases}
 use Rattle.ns_base.specs.Answers.{limit_of}
 use Rattle.ns_base.specs.declared.answers.Counted.TheVariants.{Targets}
 use Rattle.app_model.specs.CallGraph.{TargetParts, no_targets}
 use Rattle.app_model.specs.Parts.{AppParts}
-use Rattle.call_targets.specs.Made.{AreMade, AreSets, Fills, Grows, IsToMake, SetsParts, all_rows, none, more, weigh_sets}
-use Rattle.call_targets.specs.Numbered.{source_in, weigh}
+use Rattle.call_targets.specs.Made.{AreMade, AreMadeBelow, AreSets, Fills, Grows, HasPlaces, IsToMake, SetsParts, all_rows, none, more, weigh_sets}
+use Rattle.call_targets.specs.Numbered.{weigh}
 use Rattle.call_targets.specs.Sources.{row_from}
 use Rattle.call_targets.specs.declared.numbers.SetRow.{SetRow}
-use Rattle.call_targets.specs.declared.sources.Source.{Source}
 
 -- no set that is to be made weighs anything
 no_weight : (k n : ℕ) → k * 0 + n ≡ n
@@ -92,7 +90,7 @@ module _ (app : AppParts) where
     own = ⊎_elim (λ at. (at.0, at.2)) (λ past. absurd (omega (arith, past.0, lt))) (slice_get_cases old.plan s).1
 
     unmade : slice_get old.made s ≡ Some false
-    unmade = get_false old.made s (omega (arith, lt, len)) to.made
+    unmade = get_false old.made s (omega (arith, lt, len)) to.unmade
 
     pub fills : (new : SetsParts) (keys : ℕ) → ((set : SetRow) → slice_get old.plan s ≡ Some set → keys ≡ set.keys) → new.plan ≡ old.plan → new.rows ≡ slice_set old.rows s row → new.made ≡ slice_set old.made s true
         → new.total ≡ old.total + keys * length row.callees → new.total ≤ limit_of Targets → Fills app s old new
@@ -114,3 +112,32 @@ module _ (app : AppParts) where
     over keys k lim =
         let e = ap₂ (λ (n m : ℕ). n + m * length row.callees) to.sets.total (k own.0 own.1) in
         omega (arith, lim, e, over_put to.sets.made s own.0 row unmade own.1 (to.is own.0 own.1))
+
+  -- all sets are made
+  pub finished : (sets : SetsParts) → AreSets app sets → AreMadeBelow sets (length sets.plan) → sets.rows ≡ all_rows app sets.plan
+  finished sets are all = made_all are.made all
+
+  pub within_limit : (sets : SetsParts) → AreSets app sets → AreMadeBelow sets (length sets.plan) → weigh app sets.plan ≤ limit_of Targets
+  within_limit sets are all = omega (arith, are.few, are.total, ap (weigh_sets sets.plan) (made_all are.made all), weigh_all sets.plan)
+
+len_replicate : {X : Type 0} (n : ℕ) (x : X) → length (replicate n x) ≡ n
+len_replicate zero x = refl
+len_replicate (suc n) x = ap suc (len_replicate n x)
+
+-- ---- sets of a plan before any is made
+module _ (plan : List SetRow) (rows : List TargetParts) (made : List Bool) (n : ℕ) (all : n ≡ length plan) (are_rows : rows ≡ replicate n no_targets) (are_made : made ≡ replicate n false) where
+  abbrev pub begun : SetsParts
+  begun = record { plan = plan; rows = rows; made = made; total = 0 }
+
+  pub places_begun : HasPlaces begun
+  places_begun = record {
+    rows = ap length are_rows ∙ len_replicate n no_targets ∙ all;
+    made = ap length are_made ∙ len_replicate n false ∙ all;
+  }
+
+  pub sets_begun : (app : AppParts) → AreSets app begun
+  sets_begun app = record {
+    made = rw (are_rows, are_made, all) (made_none app plan);
+    total = sym (ap (weigh_sets plan) (are_rows ∙ ap (λ k. replicate k no_targets) all) ∙ weigh_none app plan);
+    few = omega arith;
+  }

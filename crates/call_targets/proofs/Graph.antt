@@ -1,5 +1,5 @@
 -- The call graph of the sets and of what instructions use.
-use Rattle.std.proofs.Common.{◌≡◌, ℕ, ◌+◌, ◌<◌, ◌≤◌, Bool, List, [], ◌∷◌, length, map, refl, sym, ap, ◌∙◌, ⊎_elim, arith, get_or, Option, Some, None, option_map, slice_get, subst}
+use Rattle.std.proofs.Common.{◌≡◌, ℕ, ◌<◌, ◌≤◌, List, [], length, map, refl, sym, ap, ◌∙◌, ⊎_elim, arith, Option, Some, None, option_map, slice_get}
 use Rattle.std.specs.Prelude.{slice_index_or}
 use Rattle.std.specs.List.{All, AllPairs, filter, range_with_len}
 use Rattle.std.proofs.lemmas.Bool.{cases_lt}
@@ -15,7 +15,7 @@ use Rattle.app_model.specs.Parts.{AppParts}
 use Rattle.app_model.specs.Sound.{IsSoundApp}
 use Rattle.app_model.specs.Targets.{IsCallGraph, finds, method_no, row_of, targets_by, targets_in}
 use Rattle.app_model.specs.Words.{code_len, ins_of, named_at, place_at, places_of}
-use Rattle.call_targets.specs.Numbered.{AreUses, IsNumbered, IsUse, NumberedParts, row_of_set}
+use Rattle.call_targets.specs.Numbered.{IsNumbered, IsUse, NumberedParts, row_of_set}
 use Rattle.call_targets.specs.Sources.{found_from, row_from}
 use Rattle.call_targets.specs.declared.numbers.SetRow.{SetRow}
 use Rattle.call_targets.specs.declared.sources.Source.{Source}

@@ -1,10 +1,10 @@
 -- What a source finds is what the call can call.
-use Rattle.std.proofs.Common.{◌≡◌, ℕ, zero, suc, ◌+◌, ◌<◌, ◌≤◌, ◌||◌, ◌&&◌, Bool, true, false, List, [], ◌∷◌, ◌++◌, length, map, refl, sym, ap, ap₂, ◌∙◌, inl, inr, ⊎_elim, arith, eqb, eq-eqb, Contains, Option, Some, None, IfSome, is_some, option_map, slice_get, get_or, subst}
-use Rattle.std.specs.Prelude.{◌⊎◌, if◌then◌else◌, is_none, not}
+use Rattle.std.proofs.Common.{◌≡◌, ℕ, ◌<◌, ◌||◌, ◌&&◌, Bool, true, false, List, [], ◌∷◌, ◌++◌, length, map, refl, sym, ap, ap₂, ◌∙◌, ⊎_elim, arith, eq-eqb, Contains, Option, Some, None, is_some, option_map, get_or, subst}
+use Rattle.std.specs.Prelude.{if◌then◌else◌, is_none, not}
 use Rattle.std.specs.List.{filter, list_any, range_with_len}
 use Rattle.std.specs.declared.alloc.Global.{Global}
 use Rattle.std.specs.declared.vec.Vec.{Vec}
-use Rattle.std.proofs.lemmas.Bool.{and_parts, cases_Bool, eqb-true, false≢true, or_cases, or_left, or_right}
+use Rattle.std.proofs.lemmas.Bool.{and_parts, eqb-true, false≢true, or_cases, or_left, or_right}
 use Rattle.std.proofs.lemmas.List.Elements.{filter_agree}
 use Rattle.std.proofs.lemmas.List.Folds.{list_any-append, list_any_at}
 use Rattle.std.proofs.lemmas.List.FromFn.{get_or-range_with_len, length-range_with_len}
@@ -15,7 +15,7 @@ use Rattle.app_model.specs.declared.calls.By.{By}
 use Rattle.app_model.specs.declared.rows.MethodRow.{MethodRow}
 use Rattle.app_model.specs.declared.rows.Named.{Named}
 use Rattle.app_model.specs.CallGraph.{TargetParts}
-use Rattle.app_model.specs.Hierarchy.{class_of_type, has_unknown_above, is_abstract, is_sub, is_unknown, line, line_of, lookup_of, may_be_sub, method_in, nearest, or_else}
+use Rattle.app_model.specs.Hierarchy.{class_of_type, has_unknown_above, is_sub, is_unknown, line, line_of, lookup_of, may_be_sub, method_in, nearest, or_else}
 use Rattle.app_model.specs.Parts.{AppParts, ClassParts}
 use Rattle.app_model.specs.Sound.{IsSoundApp}
 use Rattle.app_model.specs.Targets.{call_by, finds, found_by, found_of, found_virtually, is_foreign, is_method, method_no, row_of, targets_of_call}

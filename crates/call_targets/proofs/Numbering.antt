@@ -1,16 +1,14 @@
 -- A table of calls, call by call.
-use Rattle.std.proofs.Common.{◌≡◌, ℕ, zero, suc, ◌+◌, ◌*◌, ◌<◌, ◌≤◌, ◌||◌, ◌&&◌, Bool, true, false, cond, List, [], ◌∷◌, ◌++◌, length, refl, sym, ap, ap₂, ◌∙◌, ⊎_elim, arith, eqb, Option, Some, None, is_some, option_map, slice_get, slice_set, subst, append_assoc}
-use Rattle.std.specs.Prelude.{◌⊎◌, if◌then◌else◌, filter_map, flat_map}
-use Rattle.std.specs.List.{range_with_len}
+use Rattle.std.proofs.Common.{◌≡◌, ℕ, zero, suc, ◌+◌, ◌*◌, ◌<◌, ◌≤◌, ◌||◌, Bool, true, false, cond, List, [], ◌∷◌, ◌++◌, length, refl, sym, ap, ap₂, ◌∙◌, arith, Option, Some, None, is_some, option_map, slice_get, slice_set, subst, append_assoc}
+use Rattle.std.specs.Prelude.{if◌then◌else◌}
 use Rattle.std.specs.Map.{lookup}
-use Rattle.std.proofs.lemmas.Bool.{and_parts, cases_Bool, eqb-true, false≢true}
-use Rattle.std.proofs.lemmas.List.{append-nil}
+use Rattle.std.proofs.lemmas.Bool.{and_parts, eqb-true}
 use Rattle.std.proofs.lemmas.Option.{same_Some, slice_get_within}
 use Rattle.app_model.specs.declared.rows.Named.{Named}
 use Rattle.app_model.specs.CallGraph.{TargetParts}
 use Rattle.app_model.specs.Parts.{AppParts}
 use Rattle.app_model.specs.Targets.{CallAt, CallKey, callee_count, key_at, key_of, same_key, targets_of_call}
-use Rattle.call_targets.specs.Numbered.{Adds, AddsCall, AddsSource, IsSet, IsTable, TableParts, entries_after, entries_with, has_key, number_in, one_more, row_in, row_of_set, same_parts, same_source, source_in, weigh, with_rows}
+use Rattle.call_targets.specs.Numbered.{Adds, AddsCall, AddsSource, IsSet, IsTable, TableParts, entries_after, entries_with, has_key, number_in, one_more, row_in, row_of_set, same_parts, same_source, source_in, weigh}
 use Rattle.call_targets.specs.Sources.{key_parts, row_from}
 use Rattle.call_targets.specs.declared.numbers.SetRow.{SetRow}
 use Rattle.call_targets.specs.declared.sources.Key.{Key}

@@ -1,7 +1,7 @@
 -- The row of what look-ups found.
-use Rattle.std.proofs.Common.{◌≡◌, ℕ, ◌+◌, ◌<◌, ◌≤◌, ◌||◌, Bool, true, false, List, [], ◌∷◌, ◌++◌, length, map, refl, sym, ap, ap₂, ◌∙◌, eqb, eq-eqb, take, get_or, Contains, Option, Some, None, IfSome}
+use Rattle.std.proofs.Common.{◌≡◌, ℕ, ◌+◌, ◌<◌, ◌||◌, Bool, true, List, [], ◌∷◌, ◌++◌, length, map, refl, sym, ap, ap₂, ◌∙◌, eqb, take, get_or, IfSome}
 use Rattle.std.specs.Prelude.{filter_map, is_none}
-use Rattle.std.specs.List.{All, dedup, filter, list_any, range_with_len}
+use Rattle.std.specs.List.{All, dedup, list_any}
 use Rattle.std.specs.List.Sorted.{IsPermutation, IsSorted}
 use Rattle.std.specs.Ordering.{nat_cmp}
 use Rattle.std.proofs.lemmas.Bool.{eqb-true, false≢true}

@@ -1,17 +1,14 @@
 -- The candidates of a look-up, and what they find.
-use Rattle.std.proofs.Common.{◌≡◌, ℕ, zero, suc, ◌+◌, ◌<◌, ◌≤◌, Bool, true, false, List, [], ◌∷◌, ◌++◌, length, map, refl, sym, ap, ap₂, ◌∙◌, ⊎_elim, arith, get_or, take, Contains, Option, Some, None, IfSome, slice_get, subst, append_assoc}
+use Rattle.std.proofs.Common.{◌≡◌, ℕ, zero, suc, ◌+◌, ◌<◌, Bool, true, false, List, [], ◌∷◌, ◌++◌, length, map, refl, sym, ap, ap₂, ◌∙◌, ⊎_elim, arith, get_or, take, Contains, Option, Some, None, IfSome, slice_get, subst, append_assoc}
 use Rattle.std.specs.Prelude.{is_none}
-use Rattle.std.specs.List.{All, filter}
-use Rattle.std.specs.declared.alloc.Global.{Global}
-use Rattle.std.specs.declared.vec.Vec.{Vec}
+use Rattle.std.specs.List.{filter}
+use Rattle.std.specs.Option.{unwrap_or}
 use Rattle.std.proofs.lemmas.Bool.{cases_lt, false≢true}
 use Rattle.std.proofs.lemmas.List.{get_or_past, length-map, take_more}
-use Rattle.std.proofs.lemmas.List.Elements.{All-contains, All-filter, All-nil, All-push, Contains-append_cases, Contains-append_left, Contains-append_right, filter_passes}
+use Rattle.std.proofs.lemmas.List.Elements.{All-contains, All-nil, All-push, Contains-append_cases, Contains-append_left, Contains-append_right, filter_passes}
 use Rattle.std.proofs.lemmas.List.Quantifiers.{position-Some}
 use Rattle.std.proofs.lemmas.Option.{same_Some, slice_get_cases}
 use Rattle.ns_base.specs.declared.rows.ClassNo.{ClassNo}
-use Rattle.app_model.specs.declared.rows.MethodRow.{MethodRow}
-use Rattle.app_model.specs.CallGraph.{TargetParts}
 use Rattle.app_model.specs.Hierarchy.{class_of_type, line_of, lookup_of, method_in, nearest, or_else}
 use Rattle.app_model.specs.Parts.{AppParts, ClassParts}
 use Rattle.app_model.specs.Sound.{IsSoundApp}
@@ -21,14 +18,14 @@ use Rattle.class_graph.specs.declared.graph.Found.{Found}
 use Rattle.class_graph.specs.declared.graph.Found.TheVariants as variant
 use Rattle.class_graph.proofs.Lists.{read_of}
 use Rattle.call_targets.specs.Below.{is_marked_class, may_be, may_be_at}
-use Rattle.call_targets.specs.Looking.{AreCandidates, AreFound, IsAsked, MakerParts, begins, begins_at, look_at, look_in}
-use Rattle.call_targets.specs.Signatures.{classes_with}
+use Rattle.call_targets.specs.Looking.{AreCandidates, AreFound, IsAsked, MakerParts, begins, look_at, look_in}
+use Rattle.call_targets.specs.Signatures.{classes_in}
 use Rattle.call_targets.specs.Sources.{named_parts}
 use Rattle.call_targets.proofs.Climb.{candidates_tell, class_no}
 use Rattle.call_targets.proofs.Look.{declared_at, row_same}
 use Rattle.call_targets.proofs.Uses.{map_end}
 
-may_within : (app : AppParts) (kind c : ℕ) → may_be_at app kind c ≡ true → c < length app.classes
+pub may_within : (app : AppParts) (kind c : ℕ) → may_be_at app kind c ≡ true → c < length app.classes
 may_within app kind c e = ⊎_elim (λ lt. lt)
     (λ past. absurd (false≢true (sym (get_or_past (map (may_be app kind) app.classes) c false (omega (arith, past, length-map app.classes (may_be app kind)))) ∙ e)))
     (cases_lt c (length app.classes))
@@ -69,17 +66,10 @@ module _ (app : AppParts) (asked : MakerParts) (kind name proto : ℕ) (ready : 
       within : (c : ℕ) → may_be_at app kind c ≡ true → c < length app.classes
       within c e = may_within app kind c e
 
-  pub candidates_some : (list : List ClassNo) → classes_with asked.index.declared name proto ≡ Some list → AreCandidates app kind name proto (asked.below.roots ++ filter (is_marked_class asked.below.marks) list)
-  candidates_some list e = candidates_of list (λ c n f.
+  pub candidates_in : AreCandidates app kind name proto (asked.below.roots ++ filter (is_marked_class asked.below.marks) (classes_in asked.index.declared name proto))
+  candidates_in = candidates_of (classes_in asked.index.declared name proto) (λ c n f.
       let d = declared_at app asked.index.declared ready.maker.index.declared name proto c n f in
-      let same : d.0 ≡ list = same_Some d.0 list (sym d.1 ∙ e) in
-      subst (λ l. Contains l (class_no c)) same d.2)
-
-  pub candidates_none : classes_with asked.index.declared name proto ≡ None → AreCandidates app kind name proto (asked.below.roots ++ [])
-  candidates_none e = candidates_of [] (λ c n f. absurd (
-      let d = declared_at app asked.index.declared ready.maker.index.declared name proto c n f in
-      let g : ◌≡◌ {A = Option (List ClassNo)} None (Some d.0) = sym e ∙ d.1 in
-      cc))
+      subst (λ l. Contains l (class_no c)) (ap (λ (o : Option (List ClassNo)). unwrap_or o []) (sym d.1)) d.2)
 
 -- ---- what they find
 nearest_within : (bound : ℕ) (f : ℕ → Option ℕ) → ((c : ℕ) → IfSome (f c) (λ n. n < bound)) → (cs : List ℕ) → IfSome (nearest f cs) (λ n. n < bound)
@@ -102,7 +92,7 @@ pub look_within : (app : AppParts) (t name proto : ℕ) → IfSome (lookup_of ap
 unfolding lookup_of
 look_within app t name proto = nearest_within (length app.methods) (method_in app name proto) (method_within app name proto) (line_of app.classes t)
 
-abbrev IsWithin : AppParts → Found → Type 0
+abbrev pub IsWithin : AppParts → Found → Type 0
 IsWithin app f = IfSome (found_number f) (λ n. n < length app.methods)
 
 pub found_nothing : (app : AppParts) (kind : ℕ) → is_none (class_of_type app.classes kind) ≡ false → AreFound app (begins app kind) []
@@ -112,23 +102,23 @@ pub found_outside : (app : AppParts) (kind : ℕ) → is_none (class_of_type app
 found_outside app kind e = record { is = rw e refl; each = All-push (IsWithin app) [] variant.Outside (All-nil (IsWithin app)) tt }
 
 -- one more class
-pub found_more : (app : AppParts) (name proto : ℕ) (numbers : List (Option ℕ)) (tried : List ClassNo) (i : ℕ) (found : List Found) (f : Found) (c : ClassNo) → i < length tried → get_or tried i c ≡ c → c.0 < length app.classes
-    → ((row : ClassParts) → slice_get app.classes c.0 ≡ Some row → found_number f ≡ lookup_of app row.name.0 name proto)
+pub found_more : (app : AppParts) (name proto : ℕ) (numbers : List (Option ℕ)) (tried : List ClassNo) (i : ℕ) (found : List Found) (f : Found) (d : ClassNo) → i < length tried → (get_or tried i d).0 < length app.classes
+    → ((row : ClassParts) → slice_get app.classes (get_or tried i d).0 ≡ Some row → found_number f ≡ lookup_of app row.name.0 name proto)
     → AreFound app (numbers ++ map (look_at app name proto) (take i tried)) found → AreFound app (numbers ++ map (look_at app name proto) (take (i + 1) tried)) (found ++ f ∷ [])
-found_more app name proto numbers tried i found f c lt read within told before = record {
+found_more app name proto numbers tried i found f d lt within told before = record {
   is =
-      map_end found_number found f ∙ ap₂ (λ (ns : List (Option ℕ)) (n : Option ℕ). ns ++ n ∷ []) before.is same ∙ append_assoc numbers (map (look_at app name proto) (take i tried)) (look_at app name proto c ∷ [])
-      ∙ ap (λ ns. numbers ++ ns) (sym (map_end (look_at app name proto) (take i tried) c) ∙ ap (map (look_at app name proto)) (ap (λ k. take i tried ++ k ∷ []) (sym read) ∙ sym (take_more tried i c lt)));
+      map_end found_number found f ∙ ap₂ (λ (ns : List (Option ℕ)) (n : Option ℕ). ns ++ n ∷ []) before.is same ∙ append_assoc numbers (map (look_at app name proto) (take i tried)) (look_at app name proto (get_or tried i d) ∷ [])
+      ∙ ap (λ ns. numbers ++ ns) (sym (map_end (look_at app name proto) (take i tried) (get_or tried i d)) ∙ ap (map (look_at app name proto)) (sym (take_more tried i d lt)));
   each = All-push (IsWithin app) found f before.each (subst (λ o. IfSome o (λ n. n < length app.methods)) (sym same) there);
 }
   where
-    row : (class : ClassParts) × (slice_get app.classes c.0 ≡ Some class)
-    row = ⊎_elim (λ at. (at.0, at.2)) (λ past. absurd (omega (arith, past.0, within))) (slice_get_cases app.classes c.0).1
+    row : (class : ClassParts) × (slice_get app.classes (get_or tried i d).0 ≡ Some class)
+    row = ⊎_elim (λ at. (at.0, at.2)) (λ past. absurd (omega (arith, past.0, within))) (slice_get_cases app.classes (get_or tried i d).0).1
 
-    same : found_number f ≡ look_at app name proto c
+    same : found_number f ≡ look_at app name proto (get_or tried i d)
     same = told row.0 row.1 ∙ sym (ap (look_in app name proto) row.1)
 
-    there : IfSome (look_at app name proto c) (λ n. n < length app.methods)
+    there : IfSome (look_at app name proto (get_or tried i d)) (λ n. n < length app.methods)
     there = subst (λ o. IfSome (look_in app name proto o) (λ n. n < length app.methods)) (sym row.1) (look_within app row.0.name.0 name proto)
 
 -- the candidates' look-ups tell what a call can call

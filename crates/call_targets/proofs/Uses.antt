@@ -1,17 +1,17 @@
 -- What instructions use, instruction by instruction and method by method.
-use Rattle.std.proofs.Common.{◌≡◌, ℕ, zero, suc, ◌+◌, ◌<◌, ◌≤◌, ◌||◌, Bool, true, false, List, [], ◌∷◌, ◌++◌, length, map, refl, sym, ap, ap₂, ◌∙◌, inl, inr, ⊎_elim, arith, get_or, Option, Some, None, slice_get, subst}
+use Rattle.std.proofs.Common.{◌≡◌, ℕ, zero, suc, ◌+◌, ◌<◌, ◌≤◌, false, List, [], ◌∷◌, ◌++◌, length, map, refl, sym, ap, ◌∙◌, inl, inr, ⊎_elim, arith, get_or, Option, Some, None, slice_get, subst}
 use Rattle.std.specs.Prelude.{◌⊎◌, if◌then◌else◌, filter_map, flat_map, slice_index_or}
 use Rattle.std.specs.List.{list_any, range_with_len}
 use Rattle.std.proofs.lemmas.Bool.{cases_lt}
 use Rattle.std.proofs.lemmas.List.{append-nil}
 use Rattle.std.proofs.lemmas.List.Elements.{filter_map-append}
-use Rattle.std.proofs.lemmas.Option.{same_Some, slice_get_within}
+use Rattle.std.proofs.lemmas.Option.{same_Some}
 use Rattle.app_model.specs.declared.rows.Named.{Named}
 use Rattle.app_model.specs.CallGraph.{no_targets}
 use Rattle.app_model.specs.Parts.{AppParts}
 use Rattle.app_model.specs.Targets.{CallAt, CallKey, call_of, callee_count, calls_in, calls_of, entries_from, entry_count, key_at, same_key, targets_by, targets_in, targets_of_call}
 use Rattle.app_model.specs.Words.{code_len}
-use Rattle.call_targets.specs.Numbered.{Adds, AddsCall, AddsMethods, AddsUse, AddsUses, AreUses, IsNumbered, IsSet, IsTable, IsUse, NumberedParts, TableParts, call_at, calls_below, calls_from, entries_after, entries_with, weigh}
+use Rattle.call_targets.specs.Numbered.{Adds, AddsCall, AddsMethods, AddsUse, AddsUses, AreUses, IsNumbered, IsSet, IsTable, IsUse, TableParts, call_at, calls_below, calls_from, entries_after}
 use Rattle.call_targets.specs.declared.numbers.SetRow.{SetRow}
 use Rattle.call_targets.proofs.Numbering.{Kept, adds_more, adds_none}
 

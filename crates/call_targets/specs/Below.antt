@@ -1,5 +1,5 @@
 -- The classes of the application that a receiver of one type may have, and the roots among them.
-use Rattle.std.specs.Prelude.{ℕ, ◌≡◌, ◌<◌, ◌&&◌, not, Bool, true, false, List, length, map, Option, Some, None, is_none, slice_get, slice_index_or, Contains}
+use Rattle.std.specs.Prelude.{ℕ, ◌≡◌, ◌<◌, not, Bool, true, false, List, length, map, Option, Some, None, is_none, slice_index_or, Contains}
 use Rattle.std.specs.List.{All}
 use Rattle.ns_base.specs.declared.rows.ClassNo.{ClassNo}
 use Rattle.app_model.specs.Hierarchy.{class_of_type, may_be_sub, superclass_at}

@@ -1,5 +1,5 @@
 -- The sets, as far as they are made, and their entries.
-use Rattle.std.specs.Prelude.{ℕ, ◌≡◌, ◌<◌, ◌≤◌, ◌+◌, ◌*◌, Bool, true, false, if◌then◌else◌, List, [], ◌∷◌, length, Option, Some, None, map, slice_get, slice_index_or}
+use Rattle.std.specs.Prelude.{ℕ, ◌≡◌, ◌<◌, ◌≤◌, ◌+◌, ◌*◌, Bool, true, false, if◌then◌else◌, List, [], ◌∷◌, length, Some, map, slice_get, slice_index_or}
 use Rattle.ns_base.specs.Answers.{limit_of}
 use Rattle.ns_base.specs.declared.answers.Counted.TheVariants.{Targets}
 use Rattle.app_model.specs.CallGraph.{TargetParts, no_targets}
@@ -38,10 +38,10 @@ pub record HasPlaces (sets : SetsParts) : Type 0 where
   pub made : length sets.made ≡ length sets.plan
 
 -- set s is not made, and this is what it is to be
-pub record IsToMake (app : AppParts) (sets : SetsParts) (s : ℕ) (row : TargetParts) : Type 0 where
-  pub sets : AreSets app sets
-  pub made : slice_index_or sets.made s false ≡ false
-  pub is : (set : SetRow) → slice_get sets.plan s ≡ Some set → row ≡ row_from app set.source
+pub record IsToMake (app : AppParts) (old : SetsParts) (s : ℕ) (row : TargetParts) : Type 0 where
+  pub sets : AreSets app old
+  pub unmade : slice_index_or old.made s false ≡ false
+  pub is : (set : SetRow) → slice_get old.plan s ≡ Some set → row ≡ row_from app set.source
 
 -- sets of the same plan, with all that were made
 pub record Grows (app : AppParts) (old new : SetsParts) : Type 0 where

@@ -100,10 +100,8 @@ impl Maker {
     fn tried(&self, alloc: Global, kind: TypeNo, source: Source) -> Result<Vec<ClassNo>, AllocError>
         ensures { IfOk result (λ tried. (app : AppParts) → IsAsked app kind.0 self.now → AreCandidates app kind.0 source.name source.proto tried.items) }
     {
-        match self.index.declared.classes(NameNo(source.name), ProtoNo(source.proto)) {
-            Some(declaring) => self.below.candidates(alloc, declaring),
-            None => self.below.candidates(alloc, &[]),
-        }
+        let declaring = self.index.declaring(NameNo(source.name), ProtoNo(source.proto));
+        self.below.candidates(alloc, declaring)
     }
 
     // The set of a look-up on a receiver.

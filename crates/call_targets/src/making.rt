@@ -68,13 +68,14 @@ impl Sets {
         ensures { IfOk result (λ sets. (sets.plan ≡ plan.items) × ((app : AppParts) → AreSets app sets)) }
     {
         let mut rows = Vec::with_capacity(alloc, plan.len())?;
-        for _s in 0..plan.len() {
+        let mut made = Vec::with_capacity(alloc, plan.len())?;
+        for _place in 0..plan.len() {
             rows.push(TargetRow {
                 callees: Vec::new(alloc),
                 outside: false,
             })?;
+            made.push(false)?;
         }
-        let made = vec![in alloc; false; plan.len()]?;
         Ok(Sets {
             plan,
             rows,

@@ -3,13 +3,14 @@ ghost use Rattle.std.specs.Prelude.{◌≡◌, ◌<◌, ◌∷◌, [], ℕ, IfOk
 ghost use Rattle.app_model.specs.Hierarchy.{lookup_of};
 ghost use Rattle.app_model.specs.Sound.{IsType};
 ghost use Rattle.app_model.specs.Targets as spec;
+ghost use Rattle.call_targets.specs.Signatures.{classes_in};
 ghost use Rattle.call_targets.specs.Sources.{IsUnknownOne, IsIndex, row_from, found_from, key_parts};
 
 use crate::declared::{Declared, declared_classes};
 use app_model::{App, By, LockUse, Named, call_by};
 use class_graph::is_unknown;
 use dalvik::opcode;
-use ns_base::{MethodNo, TypeNo};
+use ns_base::{ClassNo, MethodNo, NameNo, ProtoNo, TypeNo};
 use std::alloc::{AllocError, Global};
 use std::marker::Model;
 
@@ -47,6 +48,18 @@ impl Model for Index {
     ghost Value = { IndexParts };
 
     ghost view = { λ i. record { declared = i.declared; unknown = i.unknown } };
+}
+
+impl Index {
+    /// The classes that declare such a method.
+    pub fn declaring(&self, name: NameNo, proto: ProtoNo) -> &[ClassNo]
+        ensures { result.now ≡ classes_in self.now.declared name.0 proto.0 }
+    {
+        match self.declared.classes(name, proto) {
+            Some(classes) => classes,
+            None => &[],
+        }
+    }
 }
 
 // The first type of which the files say nothing.

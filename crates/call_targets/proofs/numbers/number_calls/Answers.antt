@@ -1,4 +1,4 @@
-use Rattle.std.proofs.Common.{ap, arith, length, map, subst, sym, ◌∙◌, ◌≡◌, List, Option, ℕ}
+use Rattle.std.proofs.Common.{◌+◌, ap, arith, length, map, subst, sym, ◌∙◌, ◌≡◌, List, Option, ℕ}
 use Rattle.std.specs.declared.alloc.Global.{Global}
 use Rattle.std.specs.declared.vec.Vec.{Vec}
 use Rattle.call_targets.specs.Numbered.{AddsMethods, IsNumbered, TableParts}

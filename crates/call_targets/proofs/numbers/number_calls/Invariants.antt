@@ -1,4 +1,4 @@
-use Rattle.std.proofs.Common.{List, Option, ℕ, map}
+use Rattle.std.proofs.Common.{Option, ℕ, map}
 use Rattle.std.specs.declared.alloc.Global.{Global}
 use Rattle.std.specs.declared.vec.Vec.{Vec}
 use Rattle.call_targets.specs.Numbered.{AddsMethods}

@@ -1,4 +1,4 @@
-use Rattle.std.proofs.Common.{subst, sym}
+use Rattle.std.proofs.Common.{◌+◌, subst, sym}
 use Rattle.call_targets.specs.Numbered.{AddsUses}
 use Rattle.call_targets.proofs.Uses.{uses_more}
 use Rattle.call_targets.proofs.numbers.number_method.Goals as goal
