@@ -98,7 +98,7 @@ module _ (app : AppParts) where
       grows = record {
         sets = record {
           made = subst (λ (p : List SetRow). AreMade app p new.rows new.made) (sym plan) (subst (λ (r : List TargetParts). AreMade app old.plan r new.made) (sym rows)
-            (subst (AreMade app old.plan (slice_set old.rows s row)) (sym made) (made_put to.sets.made s own.0 row unmade own.1 (to.is own.0 own.1))));
+              (subst (AreMade app old.plan (slice_set old.rows s row)) (sym made) (made_put to.sets.made s own.0 row unmade own.1 (to.is own.0 own.1))));
           total = total ∙ ap₂ (λ (n m : ℕ). n + m * length row.callees) to.sets.total (k own.0 own.1) ∙ sym (weigh_put to.sets.made s own.0 row unmade own.1) ∙ sym (ap₂ weigh_sets plan rows);
           few = few;
         };

@@ -1,3 +1,4 @@
+pub mod Calls
 pub mod Climb
 pub mod Fills
 pub mod Graph

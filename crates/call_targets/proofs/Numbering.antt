@@ -170,9 +170,9 @@ module _ (app : AppParts) where
       table = is;
       kept = λ k targets set. set;
       count = λ rest. ap (λ n. weigh app table.rows + n) (
-        ap (λ (b : Bool). (if b then 0 else callee_count app call) + entries_after app (λ key. same_key key (key_at app call) || has_key table.keys key) rest) (ap is_some e)
-        ∙ from_zero (entries_after app (λ key. same_key key (key_at app call) || has_key table.keys key) rest)
-        ∙ after_same (λ key. same_key key (key_at app call) || has_key table.keys key) (has_key table.keys) counted rest);
+          ap (λ (b : Bool). (if b then 0 else callee_count app call) + entries_after app (λ key. same_key key (key_at app call) || has_key table.keys key) rest) (ap is_some e)
+          ∙ from_zero (entries_after app (λ key. same_key key (key_at app call) || has_key table.keys key) rest)
+          ∙ after_same (λ key. same_key key (key_at app call) || has_key table.keys key) (has_key table.keys) counted rest);
     };
     set = is.keys call.method call.op call.named s e;
   }

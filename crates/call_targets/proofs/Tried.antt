@@ -34,7 +34,7 @@ may_within app kind c e = ⊎_elim (λ lt. lt)
 put_front : {X : Type 0} (x y : X) (xs : List X) → Contains xs x → Contains (y ∷ xs) x
 put_front x y xs (k, lt, e) = (suc k, omega (arith, lt), e)
 
-in_filter : {X : Type 0} (p : X → Bool) (xs : List X) (x : X) (k : ℕ) → slice_get xs k ≡ Some x → p x ≡ true → Contains (filter p xs) x
+pub in_filter : {X : Type 0} (p : X → Bool) (xs : List X) (x : X) (k : ℕ) → slice_get xs k ≡ Some x → p x ≡ true → Contains (filter p xs) x
 in_filter p [] x k e h = absurd (cc)
 in_filter p (y ∷ xs) x zero e h =
     let f : y ≡ x = same_Some y x e in
@@ -50,10 +50,10 @@ module _ (app : AppParts) (asked : MakerParts) (kind name proto : ℕ) (ready : 
       → AreCandidates app kind name proto (asked.below.roots ++ filter (is_marked_class asked.below.marks) list)
   candidates_of list has = record {
     each = λ d c. ⊎_elim (λ r. All-contains (λ (k : ClassNo). may_be_at app kind k.0 ≡ true) asked.below.roots d ready.below.roots.each r)
-      (λ f. marked d (All-contains (λ (k : ClassNo). is_marked_class asked.below.marks k ≡ true) _ d (filter_passes (is_marked_class asked.below.marks) list) f))
-      (Contains-append_cases asked.below.roots (filter (is_marked_class asked.below.marks) list) d c);
+        (λ f. marked d (All-contains (λ (k : ClassNo). is_marked_class asked.below.marks k ≡ true) _ d (filter_passes (is_marked_class asked.below.marks) list) f))
+        (Contains-append_cases asked.below.roots (filter (is_marked_class asked.below.marks) list) d c);
     declared = λ c n may e. let r = read_of list (class_no c) (has c n e) in
-      Contains-append_right asked.below.roots _ (class_no c) (in_filter (is_marked_class asked.below.marks) list (class_no c) r.0 r.1 (may_marked c may));
+        Contains-append_right asked.below.roots _ (class_no c) (in_filter (is_marked_class asked.below.marks) list (class_no c) r.0 r.1 (may_marked c may));
     roots = λ c may root. Contains-append_left asked.below.roots _ (class_no c) (ready.below.roots.full c (within c may) may root);
   }
     where

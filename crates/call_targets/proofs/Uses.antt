@@ -99,9 +99,9 @@ module _ (app : AppParts) where
     are = record {
       len = len_push uses used ∙ ap (λ k. k + 1) a.are.len;
       each = λ i u e. ⊎_elim
-        (λ l. use_kept mid.rows new.rows b.adds.kept u m i (a.are.each i u l))
-        (λ r. let at : n ≡ i = sym (r.0 ∙ a.are.len) in subst (λ k. IsUse app new.rows u m k) at (subst (λ x. IsUse app new.rows x m n) r.1 b.is))
-        (get_push uses used i u e);
+          (λ l. use_kept mid.rows new.rows b.adds.kept u m i (a.are.each i u l))
+          (λ r. let at : n ≡ i = sym (r.0 ∙ a.are.len) in subst (λ k. IsUse app new.rows u m k) at (subst (λ x. IsUse app new.rows x m n) r.1 b.is))
+          (get_push uses used i u e);
     };
   }
     where
@@ -121,10 +121,10 @@ module _ (app : AppParts) where
     adds = subst (λ calls. Adds app calls old new) (sym calls) (adds_more app (calls_below app n) (calls_from app n 0 (code_len app n)) old mid new a.adds b.adds);
     len = len_push uses row ∙ ap (λ k. k + 1) a.len;
     are = λ m lt. ⊎_elim
-      (λ (less : m < n). subst (AreUses app new.rows m (code_len app m)) (sym (get_before uses row [] m (omega (arith, less, a.len)))) (uses_kept mid.rows new.rows b.adds.kept m _ _ (a.are m less)))
-      (λ (ge : n ≤ m). let at : n ≡ m = omega (arith, lt, ge) in subst (λ k. AreUses app new.rows k (code_len app k) (slice_index_or (uses ++ row ∷ []) k [])) at
-      (subst (AreUses app new.rows n (code_len app n)) (sym (ap (λ k. get_or (uses ++ row ∷ []) k []) (sym a.len) ∙ get_last uses row [])) b.are))
-      (cases_lt m n);
+        (λ (less : m < n). subst (AreUses app new.rows m (code_len app m)) (sym (get_before uses row [] m (omega (arith, less, a.len)))) (uses_kept mid.rows new.rows b.adds.kept m _ _ (a.are m less)))
+        (λ (ge : n ≤ m). let at : n ≡ m = omega (arith, lt, ge) in subst (λ k. AreUses app new.rows k (code_len app k) (slice_index_or (uses ++ row ∷ []) k [])) at
+        (subst (AreUses app new.rows n (code_len app n)) (sym (ap (λ k. get_or (uses ++ row ∷ []) k []) (sym a.len) ∙ get_last uses row [])) b.are))
+        (cases_lt m n);
   }
     where
       calls : calls_below app (n + 1) ≡ calls_below app n ++ calls_from app n 0 (code_len app n)

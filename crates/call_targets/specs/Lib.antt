@@ -1,5 +1,6 @@
 pub mod Answers
 pub mod Below
+pub mod Laws
 pub mod Looking
 pub mod Made
 pub mod Numbered

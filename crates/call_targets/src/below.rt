@@ -27,7 +27,12 @@ impl Model for Below {
     ghost view = { λ b. record { marks = b.marks.items; roots = b.roots.items } };
 }
 
-fn marks_of(alloc: Global, app: &App, classes: &ClassGraph, kind: TypeNo) -> Result<Vec<bool>, AllocError>
+fn marks_of(
+    alloc: Global,
+    app: &App,
+    classes: &ClassGraph,
+    kind: TypeNo,
+) -> Result<Vec<bool>, AllocError>
     requires { IsClassGraph app.now classes.now }
     ensures { IfOk result (λ marks. AreMarks app.now kind.0 marks.items) }
 {
@@ -49,7 +54,12 @@ fn is_root(app: &App, marks: &[bool], kind: TypeNo, class: ClassNo) -> bool
     }
 }
 
-fn roots_of(alloc: Global, app: &App, marks: &[bool], kind: TypeNo) -> Result<Vec<ClassNo>, AllocError>
+fn roots_of(
+    alloc: Global,
+    app: &App,
+    marks: &[bool],
+    kind: TypeNo,
+) -> Result<Vec<ClassNo>, AllocError>
     requires { AreMarks app.now kind.0 marks.now }
     ensures { IfOk result (λ roots. AreRoots app.now kind.0 (length app.now.classes) roots.items) }
 {
@@ -64,7 +74,12 @@ fn roots_of(alloc: Global, app: &App, marks: &[bool], kind: TypeNo) -> Result<Ve
 }
 
 /// The classes that an object of a type may be of.
-pub(crate) fn find_below(alloc: Global, app: &App, classes: &ClassGraph, kind: TypeNo) -> Result<Below, AllocError>
+pub(crate) fn find_below(
+    alloc: Global,
+    app: &App,
+    classes: &ClassGraph,
+    kind: TypeNo,
+) -> Result<Below, AllocError>
     requires { IsClassGraph app.now classes.now }
     ensures { IfOk result (IsBelow app.now kind.0) }
 {
@@ -85,7 +100,11 @@ impl Below {
     /// The roots, and those of the declaring classes that are marked. What a look-up finds in any
     /// marked class, one in these finds.
     #[tactic(auto, using(crate::proofs::Roots::passed_on, crate::proofs::Roots::passed_over))]
-    pub fn candidates(&self, alloc: Global, declaring: &[ClassNo]) -> Result<Vec<ClassNo>, AllocError>
+    pub fn candidates(
+        &self,
+        alloc: Global,
+        declaring: &[ClassNo],
+    ) -> Result<Vec<ClassNo>, AllocError>
         ensures { IfOk result (λ classes. classes.items ≡ self.now.roots ++ filter (is_marked_class self.now.marks) declaring.now) }
     {
         let mut classes = self.roots.to_vec(alloc)?;

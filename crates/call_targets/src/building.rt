@@ -17,7 +17,13 @@ use class_graph::ClassGraph;
 use std::alloc::{AllocError, Global};
 
 // The call graph of numbered calls.
-fn graph_of(alloc: Global, app: &App, classes: &ClassGraph, index: Index, numbered: Numbered) -> Result<CallGraph, TargetFault>
+fn graph_of(
+    alloc: Global,
+    app: &App,
+    classes: &ClassGraph,
+    index: Index,
+    numbered: Numbered,
+) -> Result<CallGraph, TargetFault>
     requires classes { IsClassGraph app.now classes.now }
     requires index { IsIndex app.now index }
     requires numbered { IsNumbered app.now numbered }

@@ -84,7 +84,12 @@ impl Declared {
 }
 
 // The next method, if a look-up may find it.
-fn add_method(alloc: Global, app: &App, declared: &mut Declared, method: MethodNo) -> Result<(), AllocError>
+fn add_method(
+    alloc: Global,
+    app: &App,
+    declared: &mut Declared,
+    method: MethodNo,
+) -> Result<(), AllocError>
     requires method { method.0 < length app.now.methods }
     requires before { AreDeclared app.now method.0 declared.old }
     ensures { IfOk result (λ done. AreDeclared app.now (method.0 + 1) declared.new) }

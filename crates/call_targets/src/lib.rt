@@ -3,6 +3,7 @@
 //! - `sources` tells what decides what a call can call, `declared` which classes declare a method.
 //! - `numbers` goes over the instructions once and numbers the sets that calls share.
 //! - `below` has the classes that a receiver may have, and `found` makes a set of what look-ups find.
+//! - `laws` has what holds of every call.
 //! - `looking` looks up one set, and `making` makes them all, and counts their entries.
 #![tactic(auto)]
 
@@ -11,6 +12,7 @@ mod building;
 mod declared;
 mod fault;
 mod found;
+mod laws;
 mod looking;
 mod making;
 mod numbers;
@@ -18,3 +20,4 @@ mod sources;
 
 pub use building::targets;
 pub use fault::TargetFault;
+pub use laws::call_law;

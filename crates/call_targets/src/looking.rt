@@ -47,7 +47,13 @@ fn begin(alloc: Global, app: &App, kind: TypeNo) -> Result<Vec<Found>, AllocErro
 }
 
 // What is found in each of some classes.
-fn look_all(app: &App, classes: &ClassGraph, source: Source, tried: &[ClassNo], found: &mut Vec<Found>) -> Result<(), AllocError>
+fn look_all(
+    app: &App,
+    classes: &ClassGraph,
+    source: Source,
+    tried: &[ClassNo],
+    found: &mut Vec<Found>,
+) -> Result<(), AllocError>
     requires graph { IsClassGraph app.now classes.now }
     requires tried { All (λ (c : ClassNo). c.0 < length app.now.classes) tried.now }
     ensures { IfOk result (λ done. (numbers : List (Option ℕ)) → AreFound app.now numbers found.old.items → AreFound app.now (numbers ++ map (look_at app.now source.name source.proto) tried.now) found.new.items) }
@@ -83,7 +89,13 @@ impl Maker {
     }
 
     // Makes the classes below a type ready.
-    fn ask(&mut self, alloc: Global, app: &App, classes: &ClassGraph, kind: TypeNo) -> Result<(), AllocError>
+    fn ask(
+        &mut self,
+        alloc: Global,
+        app: &App,
+        classes: &ClassGraph,
+        kind: TypeNo,
+    ) -> Result<(), AllocError>
         requires graph { IsClassGraph app.now classes.now }
         requires maker { IsMaker app.now self.old }
         ensures { IfOk result (λ done. IsAsked app.now kind.0 self.new) }
@@ -100,12 +112,21 @@ impl Maker {
     fn tried(&self, alloc: Global, kind: TypeNo, source: Source) -> Result<Vec<ClassNo>, AllocError>
         ensures { IfOk result (λ tried. (app : AppParts) → IsAsked app kind.0 self.now → AreCandidates app kind.0 source.name source.proto tried.items) }
     {
-        let declaring = self.index.declaring(NameNo(source.name), ProtoNo(source.proto));
+        let declaring = self
+            .index
+            .declaring(NameNo(source.name), ProtoNo(source.proto));
         self.below.candidates(alloc, declaring)
     }
 
     // The set of a look-up on a receiver.
-    fn below_set(&mut self, alloc: Global, app: &App, classes: &ClassGraph, kind: TypeNo, source: Source) -> Result<TargetRow, AllocError>
+    fn below_set(
+        &mut self,
+        alloc: Global,
+        app: &App,
+        classes: &ClassGraph,
+        kind: TypeNo,
+        source: Source,
+    ) -> Result<TargetRow, AllocError>
         requires graph { IsClassGraph app.now classes.now }
         requires maker { IsMaker app.now self.old }
         ensures row { IfOk result (λ row. (m : ℕ) → row ≡ row_of_spec (length app.now.methods) (found_virtually app.now m (named_parts kind.0 source.name source.proto))) }
@@ -120,7 +141,13 @@ impl Maker {
     }
 
     /// The set of a source.
-    pub fn set(&mut self, alloc: Global, app: &App, classes: &ClassGraph, source: Source) -> Result<TargetRow, AllocError>
+    pub fn set(
+        &mut self,
+        alloc: Global,
+        app: &App,
+        classes: &ClassGraph,
+        source: Source,
+    ) -> Result<TargetRow, AllocError>
         requires graph { IsClassGraph app.now classes.now }
         requires maker { IsMaker app.now self.old }
         ensures row { IfOk result (λ row. row ≡ row_from app.now source) }

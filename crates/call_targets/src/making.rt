@@ -103,7 +103,14 @@ impl Sets {
     }
 
     // Makes a set, if it is not made yet.
-    fn fill(&mut self, alloc: Global, app: &App, classes: &ClassGraph, maker: &mut Maker, s: usize) -> Result<(), TargetFault>
+    fn fill(
+        &mut self,
+        alloc: Global,
+        app: &App,
+        classes: &ClassGraph,
+        maker: &mut Maker,
+        s: usize,
+    ) -> Result<(), TargetFault>
         requires place { s < length self.old.plan }
         requires graph { IsClassGraph app.now classes.now }
         requires maker { IsMaker app.now maker.old }
@@ -121,7 +128,13 @@ impl Sets {
     }
 
     // Makes sets, those of one named class together.
-    fn fill_in_order(&mut self, alloc: Global, app: &App, classes: &ClassGraph, maker: &mut Maker) -> Result<(), TargetFault>
+    fn fill_in_order(
+        &mut self,
+        alloc: Global,
+        app: &App,
+        classes: &ClassGraph,
+        maker: &mut Maker,
+    ) -> Result<(), TargetFault>
         requires graph { IsClassGraph app.now classes.now }
         requires maker { IsMaker app.now maker.old }
         requires sets { AreSets app.now self.old }
@@ -141,7 +154,13 @@ impl Sets {
     }
 
     // Makes all sets that are not made yet.
-    fn fill_rest(&mut self, alloc: Global, app: &App, classes: &ClassGraph, maker: &mut Maker) -> Result<(), TargetFault>
+    fn fill_rest(
+        &mut self,
+        alloc: Global,
+        app: &App,
+        classes: &ClassGraph,
+        maker: &mut Maker,
+    ) -> Result<(), TargetFault>
         requires graph { IsClassGraph app.now classes.now }
         requires maker { IsMaker app.now maker.old }
         requires sets { AreSets app.now self.old }
@@ -156,7 +175,13 @@ impl Sets {
 }
 
 /// The sets of a plan, or `Limit` where their entries are too many.
-pub(crate) fn make_sets(alloc: Global, app: &App, classes: &ClassGraph, index: Index, plan: Vec<SetRow>) -> Result<Vec<TargetRow>, TargetFault>
+pub(crate) fn make_sets(
+    alloc: Global,
+    app: &App,
+    classes: &ClassGraph,
+    index: Index,
+    plan: Vec<SetRow>,
+) -> Result<Vec<TargetRow>, TargetFault>
     requires graph { IsClassGraph app.now classes.now }
     requires index { IsIndex app.now index }
     ensures rows { IfOk result (λ rows. rows.items ≡ all_rows app.now plan.items) }

@@ -7,7 +7,6 @@ ghost use Rattle.app_model.specs.LockUse.{invoke_of};
 ghost use Rattle.app_model.specs.Words.{code_len, ins_at};
 ghost use Rattle.call_targets.specs.Sources.{IsIndex, key_parts, row_from};
 ghost use Rattle.call_targets.specs.Numbered.{Adds, AddsCall, AddsSource, AreUses, IsNumbered, IsSet, IsTable, AddsUse, AddsUses, number_in, one_more, with_rows};
-
 ghost use Rattle.call_targets.specs.declared.numbers.SetRow.{SetRow};
 
 use crate::sources::{Index, Key, Source, key_of, source_of};
@@ -123,7 +122,14 @@ impl Table {
 }
 
 // The set of the call that names a method.
-fn number_named(app: &App, index: &Index, table: &mut Table, method: MethodNo, op: u8, named: Named) -> Result<u32, AllocError>
+fn number_named(
+    app: &App,
+    index: &Index,
+    table: &mut Table,
+    method: MethodNo,
+    op: u8,
+    named: Named,
+) -> Result<u32, AllocError>
     requires index { IsIndex app.now index.now }
     requires table { IsTable app.now table.old }
     requires method { method.0 < length app.now.methods }
@@ -150,7 +156,13 @@ fn invoked(app: &App, method: MethodNo, i: u32) -> Option<u8>
 }
 
 // What an instruction uses: the set of its call, or nothing where it is none.
-fn number_call(app: &App, index: &Index, table: &mut Table, method: MethodNo, i: u32) -> Result<Option<u32>, AllocError>
+fn number_call(
+    app: &App,
+    index: &Index,
+    table: &mut Table,
+    method: MethodNo,
+    i: u32,
+) -> Result<Option<u32>, AllocError>
     requires index { IsIndex app.now index.now }
     requires table { IsTable app.now table.old }
     requires method { method.0 < length app.now.methods }
@@ -167,7 +179,13 @@ fn number_call(app: &App, index: &Index, table: &mut Table, method: MethodNo, i:
 }
 
 // What the instructions of a method use.
-fn number_method(alloc: Global, app: &App, index: &Index, table: &mut Table, method: MethodNo) -> Result<Vec<Option<u32>>, AllocError>
+fn number_method(
+    alloc: Global,
+    app: &App,
+    index: &Index,
+    table: &mut Table,
+    method: MethodNo,
+) -> Result<Vec<Option<u32>>, AllocError>
     requires index { IsIndex app.now index.now }
     requires table { IsTable app.now table.old }
     requires method { method.0 < length app.now.methods }
