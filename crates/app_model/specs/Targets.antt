@@ -1,9 +1,9 @@
 -- What a call can call: methods of the application, and what is outside it. Access flags are not looked at.
-use Rattle.std.specs.Prelude.{ℕ, ◌≡◌, ◌+◌, ◌-◌, ◌==◌, ◌||◌, ◌&&◌, not, nat_le, Bool, true, false, if◌then◌else◌, List, [], ◌∷◌, ◌++◌, map, length, filter, filter_map, flat_map, Option, Some, None, is_none, slice_get, slice_index}
+use Rattle.std.specs.Prelude.{ℕ, ◌≡◌, ◌+◌, ◌==◌, ◌||◌, ◌&&◌, not, Bool, true, false, if◌then◌else◌, List, [], ◌∷◌, ◌++◌, map, length, filter, filter_map, flat_map, Option, Some, None, is_none, slice_get, slice_index}
 use Rattle.std.specs.List.{list_any, range_with_len}
 use Rattle.ns_base.specs.declared.rows.MethodNo.{MethodNo}
 use Rattle.ns_base.specs.declared.rows.TypeNo.{TypeNo}
-use Rattle.dalvik.specs.declared.opcode.TheConstants.{INVOKE_SUPER, INVOKE_SUPER_RANGE, INVOKE_DIRECT, INVOKE_DIRECT_RANGE, INVOKE_STATIC, INVOKE_STATIC_RANGE, INVOKE_VIRTUAL, INVOKE_VIRTUAL_RANGE}
+use Rattle.dalvik.specs.declared.opcode.TheConstants.{INVOKE_SUPER, INVOKE_SUPER_RANGE, INVOKE_DIRECT, INVOKE_DIRECT_RANGE, INVOKE_STATIC, INVOKE_STATIC_RANGE, INVOKE_VIRTUAL, INVOKE_VIRTUAL_RANGE, INVOKE_INTERFACE, INVOKE_INTERFACE_RANGE}
 use Rattle.app_model.specs.declared.calls.By.{By}
 use Rattle.app_model.specs.declared.calls.By.TheVariants.{Virtual, Super, Direct, Static}
 use Rattle.app_model.specs.declared.lock_use.LockUse.{LockUse}
@@ -126,7 +126,12 @@ pub record CallKey : Type 0 where
 
 -- the opcode of the plain form
 abbrev pub plain_form : (op : ℕ) → ℕ
-plain_form op = if nat_le INVOKE_VIRTUAL_RANGE op then op - (INVOKE_VIRTUAL_RANGE - INVOKE_VIRTUAL) else op
+plain_form op =
+    if op == INVOKE_VIRTUAL_RANGE then INVOKE_VIRTUAL
+    else (if op == INVOKE_SUPER_RANGE then INVOKE_SUPER
+    else (if op == INVOKE_DIRECT_RANGE then INVOKE_DIRECT
+    else (if op == INVOKE_STATIC_RANGE then INVOKE_STATIC
+    else (if op == INVOKE_INTERFACE_RANGE then INVOKE_INTERFACE else op))))
 
 abbrev pub key_of : AppParts → (m op : ℕ) → Named → CallKey
 key_of app m op named =

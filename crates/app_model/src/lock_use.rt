@@ -53,8 +53,8 @@ impl App {
         }
     }
 
-    // What an invoke of this opcode is.
-    fn use_of(&self, op: u8, named: Named) -> LockUse
+    /// What an invoke of this opcode is, by the method that it names.
+    pub fn use_of(&self, op: u8, named: Named) -> LockUse
         ensures { result ≡ use_of self.now op named }
     {
         if self.is_on(named, WAKE_LOCK) {

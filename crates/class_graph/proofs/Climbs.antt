@@ -18,16 +18,16 @@ module _ (app : AppParts) (sound : IsSoundApp app) where
   classes = app.classes
 
   -- ---- the line of a class
-  superclass_is : (c : ℕ) (class : ClassParts) → slice_get classes c ≡ Some class → superclass_at classes c ≡ class_of_parent classes class.parent
+  pub superclass_is : (c : ℕ) (class : ClassParts) → slice_get classes c ≡ Some class → superclass_at classes c ≡ class_of_parent classes class.parent
   unfolding superclass_at
   superclass_is c class e = ap (λ o. class_of_parent classes (parent_of o)) e
 
-  no_line : (n : ℕ) → line classes n None ≡ []
+  pub no_line : (n : ℕ) → line classes n None ≡ []
   no_line zero = refl
   no_line (suc n) = refl
 
   -- a step up: the class, its superclass, and the class of that
-  step_up : (c d : ℕ) → superclass_at classes c ≡ Some d
+  pub step_up : (c d : ℕ) → superclass_at classes c ≡ Some d
       → (class : ClassParts) × (slice_get classes c ≡ Some class) × (parent : TypeNo) × (class.parent ≡ Some parent) × (class_of_type classes parent.0 ≡ Some d)
   unfolding superclass_at
   step_up c d e = at (slice_get classes c) refl e
@@ -62,7 +62,7 @@ module _ (app : AppParts) (sound : IsSoundApp app) where
   abbrev Within : Option ℕ → Type 0
   Within o = (d : ℕ) → o ≡ Some d → d < length classes
 
-  within_type : (t : ℕ) → Within (class_of_type classes t)
+  pub within_type : (t : ℕ) → Within (class_of_type classes t)
   within_type t d e = let found = class_found classes t d e in slice_get_within classes d found.0 found.1
 
   all_any : (P : ℕ → Type 0) (xs : List ℕ) → AllByRecursion P xs → (q : ℕ) → list_any (eqb q) xs ≡ true → P q
@@ -97,14 +97,14 @@ module _ (app : AppParts) (sound : IsSoundApp app) where
   distinct (suc n) None = tt
   distinct (suc n) (Some c) = (others n c, distinct n (superclass_at classes c))
 
-  short : (k : ℕ) (o : Option ℕ) → length (line classes (suc k) o) ≤ k → line classes (suc k) o ≡ line classes k o
+  pub short : (k : ℕ) (o : Option ℕ) → length (line classes (suc k) o) ≤ k → line classes (suc k) o ≡ line classes k o
   short zero None le = refl
   short zero (Some c) le = absurd (omega arith)
   short (suc k) None le = refl
   short (suc k) (Some c) le = ap (λ cs. c ∷ cs) (short k (superclass_at classes c) (omega arith))
 
   -- so many steps are enough
-  enough : (o : Option ℕ) → Within o → line classes (suc (length classes)) o ≡ line classes (length classes) o
+  pub enough : (o : Option ℕ) → Within o → line classes (suc (length classes)) o ≡ line classes (length classes) o
   enough o h =
       short (length classes) o
       (length-le_from_distinct_below _ (length classes) (distinct (suc (length classes)) o) (all_any (λ d. d < length classes) _ (each_up (λ d. d < length classes) (λ c d lt e. let s = step_up c d e in within_type s.2.0 d s.4) (suc (length classes)) o h)))

@@ -19,7 +19,7 @@ pub(crate) struct KindRow {
 
 /// Whether the files say nothing of a type, so that it may stand below others that they say nothing of.
 #[tactic(auto, unfolding(app_model::specs::Hierarchy::is_unknown))]
-pub(crate) fn is_unknown(app: &App, kind: TypeNo) -> bool
+pub fn is_unknown(app: &App, kind: TypeNo) -> bool
     ensures { result ≡ is_unknown app.now kind.0 }
 {
     app.class_of_type(kind).is_none() && app.type_text(kind) != OBJECT

@@ -15,3 +15,4 @@ mod walk;
 
 pub use building::build;
 pub use graph::{ClassGraph, Found};
+pub use kinds::is_unknown;

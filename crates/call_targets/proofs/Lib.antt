@@ -1,0 +1,13 @@
+pub mod Calls
+pub mod Climb
+pub mod Fills
+pub mod Graph
+pub mod Keys
+pub mod Listed
+pub mod Look
+pub mod Numbering
+pub mod Rising
+pub mod Roots
+pub mod Rows
+pub mod Tried
+pub mod Uses

@@ -1,0 +1,5 @@
+use Rattle.call_targets.proofs.Calls.{tells_calls}
+use Rattle.call_targets.proofs.laws.call_law.Goals as goal
+
+pub returns : goal.returns
+returns c = tells_calls
