@@ -22,6 +22,11 @@ abbrev pub is_array_of : (Data → Bool) → Data → Bool
 is_array_of test (array ds) = each_item test ds
 is_array_of test d = false
 
+-- what the arrays of a table have: components, or names of callbacks
+abbrev pub is_item : Level → Data → Bool
+is_item Root = is_table
+is_item Component = is_text
+
 abbrev pub is_one : Option ℤ → Bool
 is_one (Some (pos n)) = n == 1
 is_one other = false
@@ -30,7 +35,7 @@ is_one other = false
 abbrev pub is_root_key : List ℕ → Data → Bool
 is_root_key k d =
     if bytes_eq k (codes "profile") then is_one (as_integer d)
-    else if bytes_eq k (codes "component") then is_array_of is_table d
+    else if bytes_eq k (codes "component") then is_array_of (is_item Root) d
     else false
 
 -- a component has the keys `class`, `kind` and `exits`
@@ -38,7 +43,7 @@ abbrev pub is_component_key : List ℕ → Data → Bool
 is_component_key k d =
     if bytes_eq k (codes "class") then is_text d
     else if bytes_eq k (codes "kind") then is_text d
-    else if bytes_eq k (codes "exits") then is_array_of is_text d
+    else if bytes_eq k (codes "exits") then is_array_of (is_item Component) d
     else false
 
 -- a table of the level may have the key, with this value

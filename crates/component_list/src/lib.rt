@@ -7,11 +7,15 @@
 #![tactic(auto)]
 
 mod binding;
+mod callbacks;
+mod exits;
 mod fault;
 mod keys;
 mod lifecycle;
 mod listed;
 mod reading;
+mod rows;
+mod values;
 
 pub use binding::bind_list;
 pub use fault::{KeyText, ListFault};
