@@ -110,18 +110,23 @@ rows_in components =
     if nat_lt (limit_of Components) (item_count components) then Err (fault.Limit Components)
     else reached (add_row components) [] (item_count components)
 
-abbrev pub rows_of : Option Members → Result (List ListedParts) ListFault
-rows_of None = Err fault.Text
-rows_of (Some root) = do
+-- the rows of a document
+abbrev pub rows_of : Members → Result (List ListedParts) ListFault
+rows_of root = do
   right ← keys_are_right 0 (wrong_member Root root)
   rows_in (items_or_none (array_at (codes "component") root))
 
--- the document that the bytes are
-abbrev pub document_of : List ℕ → Option Members
-document_of bytes = if is_utf8 bytes then parse_document bytes else None
+abbrev pub document_or_fault : Option Members → Result Members ListFault
+document_or_fault None = Err fault.Text
+document_or_fault (Some root) = Ok root
+
+abbrev pub document_of : List ℕ → Result Members ListFault
+document_of bytes = document_or_fault (if is_utf8 bytes then parse_document bytes else None)
 
 unfoldable pub listed_of : List ℕ → Result (List ListedParts) ListFault
-listed_of bytes = rows_of (document_of bytes)
+listed_of bytes = do
+  root ← document_of bytes
+  rows_of root
 
 abbrev pub is_memory : ListFault → Bool
 is_memory fault.Memory = true

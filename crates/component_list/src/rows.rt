@@ -1,8 +1,8 @@
 //! The components of a list, one by one.
-ghost use Rattle.std.specs.Prelude.{◌≡◌, ◌<◌, option_map, string_bytes, IfOk, []};
+ghost use Rattle.std.specs.Prelude.{◌≡◌, ◌<◌, codes, option_map, string_bytes, IfOk, []};
 ghost use Rattle.ns_base.specs.Steps.{Gives, IsExact};
 ghost use Rattle.toml.specs.View.{table_view};
-ghost use Rattle.component_list.specs.Reading.{is_memory, keys_are_right, kind_named, kind_of, row_of, with_row};
+ghost use Rattle.component_list.specs.Reading.{is_memory, keys_are_right, kind_named, kind_of, row_of, text_at, with_row};
 
 use crate::exits::{kind_named, read_exits};
 use crate::fault::{KeyText, ListFault};
@@ -47,7 +47,8 @@ fn read_kind(component: u32, name: &str) -> Result<Kind, ListFault>
 #[tactic(auto, unfolding(crate::specs::Reading::row_of))]
 pub(crate) fn read_row(alloc: Global, component: u32, table: &Table) -> Result<ListedRow, ListFault>
     requires { component < 256 }
-    ensures { IsExact is_memory result (row_of component (table_view table.now)) }
+    ensures row { IsExact is_memory result (row_of component (table_view table.now)) }
+    ensures class { IfOk result (λ row. row.class ≡ text_at (codes "class") (table_view table.now)) }
 {
     refuse_key(alloc, component + 1, wrong_key(table))?;
     let kind = read_kind(component, text_at(table, "kind"))?;
