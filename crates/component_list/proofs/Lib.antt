@@ -1,3 +1,4 @@
 pub mod ItemLaws
 pub mod RowLaws
 pub mod ReadLaws
+pub mod Places

@@ -13,6 +13,8 @@ mod fault;
 mod keys;
 mod lifecycle;
 mod listed;
+mod names;
+mod numbers;
 mod reading;
 mod rows;
 mod values;
