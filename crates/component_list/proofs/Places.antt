@@ -6,9 +6,9 @@ use Rattle.std.proofs.lemmas.Iterator.Adapters.{position_from-zero}
 use Rattle.std.proofs.lemmas.List.{drop_more}
 use Rattle.std.proofs.lemmas.Option.{get_or_from_slice_get, slice_get_within}
 use Rattle.app_model.specs.Components.{Prototype, name_number, proto_number}
-use Rattle.app_model.specs.Names.{has_types, is_proto}
-use Rattle.app_model.specs.Parts.{AppParts, ProtoParts}
-use Rattle.component_list.specs.Binding.{as_name, as_proto}
+use Rattle.app_model.specs.Names.{has_types, is_proto, type_text}
+use Rattle.app_model.specs.Parts.{AppParts, ClassParts, ProtoParts}
+use Rattle.component_list.specs.Binding.{as_name, as_proto, class_named, is_named}
 
 pub from_here : {X : Type 0} (p : X → Bool) (xs : List X) (i : ℕ) (x : X) → slice_get xs i ≡ Some x
     → position_from p i (drop i xs) ≡ cond (p x) (Some i) (position_from p (i + 1) (drop (i + 1) xs))
@@ -56,3 +56,14 @@ proto_none app p i from past = ap as_proto (found_none (has_prototype app p) app
 pub proto_told : (app : AppParts) (p : Prototype) (i : ℕ) (x : ProtoParts) (b : Bool) → slice_get app.protos i ≡ Some x → b ≡ is_proto app i p.result p.params → has_prototype app p x ≡ b
 unfolding is_proto
 proto_told app p i x b here told = sym (told ∙ ap (λ (o : Option ProtoParts). has_types app o p.result p.params) here)
+
+-- ---- classes
+pub class_from : (app : AppParts) (name : List ℕ) → position_from (is_named app name) 0 app.classes ≡ class_named app name
+unfolding class_named
+class_from app name = sym (from_start (is_named app name) app.classes)
+
+-- the class at place i comes before those after it
+pub class_first : (app : AppParts) (name key : List ℕ) (i left : ℕ) (class : ClassParts) (known : Option ℕ) → slice_get app.classes i ≡ Some class → key ≡ type_text app class.name.0 → i + 1 ≡ left
+    → known ≡ position_from (is_named app name) left (drop left app.classes)
+    → cond (bytes_eq key name) (Some i) known ≡ position_from (is_named app name) i (drop i app.classes)
+class_first app name key i left class known here named next before = rw (named, before, ← next) (sym (from_here (is_named app name) app.classes i class here))

@@ -1,6 +1,8 @@
 -- A component list in an application: its table, or the first fault.
-use Rattle.std.specs.Prelude.{ℕ, ◌&&◌, Bool, true, false, if◌then◌else◌, List, length, map, Option, Some, None, option_and_then, option_map, is_none, position, slice_get, bytes_eq, Result, Ok, Err}
+use Rattle.std.specs.Prelude.{ℕ, ◌≡◌, ◌&&◌, Bool, true, false, if◌then◌else◌, List, length, map, Option, Some, None, option_and_then, option_map, position, slice_get, bytes_eq, Result, Ok, Err}
+use Rattle.std.specs.Borrow.{Bor}
 use Rattle.std.specs.List.{range_with_len}
+use Rattle.std.specs.Map.{lookup}
 use Rattle.ns_base.specs.Steps.{◌>>=◌, rows_below}
 use Rattle.ns_base.specs.declared.rows.MethodNo.{MethodNo}
 use Rattle.ns_base.specs.declared.rows.NameNo.{NameNo}
@@ -12,6 +14,7 @@ use Rattle.app_model.specs.declared.component.Kind.{Kind}
 use Rattle.app_model.specs.declared.component.Kind.TheVariants.{Activity, Service, Receiver, Runnable}
 use Rattle.component_list.specs.Listed.{ListedParts}
 use Rattle.component_list.specs.declared.numbers.Callback.{Callback}
+use Rattle.component_list.specs.declared.numbers.Callbacks.{Callbacks}
 use Rattle.component_list.specs.declared.fault.ListFault.{ListFault}
 use Rattle.component_list.specs.declared.fault.ListFault.TheVariants as fault
 
@@ -40,10 +43,16 @@ has_one_callback Service = false
 has_one_callback Receiver = true
 has_one_callback Runnable = true
 
+-- there is an entry for the callback, and no method in it
+abbrev pub is_missing : Option (Option MethodNo) → Bool
+is_missing None = false
+is_missing (Some None) = true
+is_missing (Some (Some m)) = false
+
 -- row i, of class c
 abbrev pub row_on : AppParts → (i : ℕ) → ListedParts → (c : ℕ) → Result ComponentParts ListFault
 row_on app i row c =
-    if has_one_callback row.kind && is_none (callback_method app c row.kind 0) then Err (fault.NoCallback i)
+    if has_one_callback row.kind && is_missing (slice_get (methods_on app c row.kind) 0) then Err (fault.NoCallback i)
     else Ok (record { class = record { 0 = c }; kind = row.kind; exits = row.exits; methods = methods_on app c row.kind })
 
 abbrev pub bound_row : AppParts → (i : ℕ) → ListedParts → Result ComponentParts ListFault
@@ -73,3 +82,13 @@ numbers_at app kind k = record {
 
 abbrev pub numbers_of : AppParts → Kind → List Callback
 numbers_of app kind = map (numbers_at app kind) (range_with_len 0 (length (callbacks_of kind)))
+
+-- the map gives a class to each name
+abbrev pub HasNames : AppParts → List (Bor (List ℕ) × ℕ) → Type 0
+HasNames app names = (name : Bor (List ℕ)) → lookup (λ (known : Bor (List ℕ)). bytes_eq name.now known.now) names ≡ class_named app name.now
+
+pub record HasNumbers (app : AppParts) (callbacks : Callbacks) : Type 0 where
+  pub activity : callbacks.activity.items ≡ numbers_of app Activity
+  pub service : callbacks.service.items ≡ numbers_of app Service
+  pub receiver : callbacks.receiver.items ≡ numbers_of app Receiver
+  pub runnable : callbacks.runnable.items ≡ numbers_of app Runnable

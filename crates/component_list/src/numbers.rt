@@ -1,7 +1,8 @@
 //! The numbers that an application has for the names and prototypes of callbacks.
 ghost use Rattle.std.specs.Prelude.{◌≡◌, ◌<◌, length, map, option_and_then, slice_get, IfOk};
 ghost use Rattle.app_model.specs.Components.{bare, callbacks_of, name_number, proto_number, prototypes_of, service_prototypes, taking};
-ghost use Rattle.component_list.specs.Binding.{as_name, as_proto, numbers_at, numbers_of};
+ghost use Rattle.app_model.specs.Parts.{AppParts};
+ghost use Rattle.component_list.specs.Binding.{as_name, as_proto, HasNumbers, numbers_of};
 
 use crate::callbacks::{callback_count, callback_name};
 use app_model::{App, Kind};
@@ -102,4 +103,30 @@ fn find_callbacks(alloc: Global, app: &App, kind: Kind) -> Result<Vec<Callback>,
         found.push(Callback { name, proto })?;
     }
     Ok(found)
+}
+
+impl Callbacks {
+    /// The callbacks of all kinds in an application.
+    pub fn find(alloc: Global, app: &App) -> Result<Callbacks, AllocError>
+        ensures { IfOk result (HasNumbers app.now) }
+    {
+        Ok(Callbacks {
+            activity: find_callbacks(alloc, app, Kind::Activity)?,
+            service: find_callbacks(alloc, app, Kind::Service)?,
+            receiver: find_callbacks(alloc, app, Kind::Receiver)?,
+            runnable: find_callbacks(alloc, app, Kind::Runnable)?,
+        })
+    }
+
+    /// The callbacks of a kind, in their order.
+    pub fn of_kind(&self, kind: Kind) -> &[Callback]
+        ensures { (app : AppParts) → HasNumbers app self.now → result.now ≡ numbers_of app kind }
+    {
+        match kind {
+            Kind::Activity => &self.activity,
+            Kind::Service => &self.service,
+            Kind::Receiver => &self.receiver,
+            Kind::Runnable => &self.runnable,
+        }
+    }
 }
