@@ -117,7 +117,8 @@ one_bound app listed n rows row before last = record {
     | inr past ↦
         let at : k ≡ length rows = omega (arith, past, low, before.len) in
         rw (at, get_or-append_seam rows row [] d, before.len) (last l)
-  ] }
+  ];
+}
 
 are_bound : (app : AppParts) (listed : List ListedParts) (n : ℕ) (rows : List ComponentParts) → n ≤ length listed → rows_below (λ k. bound_at app k (slice_get listed k)) n ≡ Ok rows → AreBound app listed n rows
 are_bound app listed zero rows few come = rw (← same_ok [] rows come) (record { len = refl; each = λ k l d low. absurd (omega (arith, low)) })
@@ -127,7 +128,7 @@ are_bound app listed (suc n) rows few come =
     let (row, made, last) = bind_ok (f n) (λ row. Ok (before ++ row ∷ [])) rows rest in
     rw (← same_ok (before ++ row ∷ []) rows last)
     (one_bound app listed n before row (are_bound app listed n before (omega (arith, few)) steps)
-      (λ l. row_bound app n (get_or listed n l) row (sym (ap (bound_at app n) (slice_get-get_or listed n l (omega (arith, few)))) ∙ made)))
+    (λ l. row_bound app n (get_or listed n l) row (sym (ap (bound_at app n) (slice_get-get_or listed n l (omega (arith, few)))) ∙ made)))
 
 -- ---- the table belongs to the application
 blank_class : ClassParts
@@ -165,7 +166,8 @@ is_listed app listed row bound fits = record {
   class = class_within app listed.class row.class.0 (sym bound.class);
   exits = rw (bound.exits, bound.kind) fits;
   entries = rw (bound.methods, bound.kind) (length-map-range_with_len (λ i. as_method (callback_method app row.class.0 listed.kind i)) 0 (length (callbacks_of listed.kind)));
-  methods = λ k. rw (bound.methods, bound.kind) (methods_get app row.class.0 listed.kind k) }
+  methods = λ k. rw (bound.methods, bound.kind) (methods_get app row.class.0 listed.kind k);
+}
 
 blank_listed : ListedParts
 blank_listed = record { kind = Receiver; class = []; exits = 0 }
@@ -178,7 +180,8 @@ belongs app listed rows read come =
     record {
       limit = omega (arith, all.len, read.limit);
       distinct = λ i j d low high same.
-        let first = all.each i blank_listed d (omega (arith, low, high, all.len)) in
-        let second = all.each j blank_listed d (omega (arith, high, all.len)) in
-        read.distinct i j blank_listed low (omega (arith, high, all.len)) (one_name app _ _ (get_or rows j d).class.0 (rw same at first.class) second.class);
-      each = λ k d low. is_listed app (get_or listed k blank_listed) (get_or rows k d) (all.each k blank_listed d (omega (arith, low, all.len))) (read.exits k blank_listed (omega (arith, low, all.len))) }
+          let first = all.each i blank_listed d (omega (arith, low, high, all.len)) in
+          let second = all.each j blank_listed d (omega (arith, high, all.len)) in
+          read.distinct i j blank_listed low (omega (arith, high, all.len)) (one_name app _ _ (get_or rows j d).class.0 (rw same at first.class) second.class);
+      each = λ k d low. is_listed app (get_or listed k blank_listed) (get_or rows k d) (all.each k blank_listed d (omega (arith, low, all.len))) (read.exits k blank_listed (omega (arith, low, all.len)));
+    }

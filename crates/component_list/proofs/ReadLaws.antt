@@ -73,7 +73,7 @@ row_fits : (i : ℕ) (ms : Members) (row : ListedParts) → row_of i ms ≡ Ok r
 unfolding row_of
 row_fits i ms row come =
     let (kind, exits, masked, same) = row_steps (keys_are_right (i + 1) (wrong_key ms)) (kind_of i (kind_named (text_at (codes "kind") ms)))
-        (λ k. exits_in i k (array_at (codes "exits") ms)) (λ k mask. record { kind = k; class = text_at (codes "class") ms; exits = mask }) row come in
+    (λ k. exits_in i k (array_at (codes "exits") ms)) (λ k mask. record { kind = k; class = text_at (codes "class") ms; exits = mask }) row come in
     rw (← same) (exits_in_fit i kind (array_at (codes "exits") ms) exits masked)
 
 -- ---- no class comes twice

@@ -78,7 +78,8 @@ as_proto p = option_map (λ number. record { 0 = number }) p
 abbrev pub numbers_at : AppParts → Kind → (k : ℕ) → Callback
 numbers_at app kind k = record {
   name = as_name (option_and_then (name_number app) (slice_get (callbacks_of kind) k));
-  proto = as_proto (option_and_then (proto_number app) (slice_get (prototypes_of kind) k)) }
+  proto = as_proto (option_and_then (proto_number app) (slice_get (prototypes_of kind) k));
+}
 
 abbrev pub numbers_of : AppParts → Kind → List Callback
 numbers_of app kind = map (numbers_at app kind) (range_with_len 0 (length (callbacks_of kind)))

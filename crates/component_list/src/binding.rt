@@ -92,7 +92,12 @@ impl<'a> Binder<'a> {
     }
 
     // The methods of the callbacks of a kind on a class.
-    fn methods(&self, alloc: Global, class: ClassNo, kind: Kind) -> Result<Vec<Option<MethodNo>>, AllocError>
+    fn methods(
+        &self,
+        alloc: Global,
+        class: ClassNo,
+        kind: Kind,
+    ) -> Result<Vec<Option<MethodNo>>, AllocError>
         requires { class.0 < length self.now.classes }
         ensures { IfOk result (λ methods. methods.items ≡ methods_on self.now class.0 kind) }
     {
@@ -105,7 +110,12 @@ impl<'a> Binder<'a> {
     }
 
     #[tactic(auto, using(crate::proofs::BoundLaws::class_within))]
-    fn row(&self, alloc: Global, component: u32, listed: &ListedRow) -> Result<ComponentRow, ListFault>
+    fn row(
+        &self,
+        alloc: Global,
+        component: u32,
+        listed: &ListedRow,
+    ) -> Result<ComponentRow, ListFault>
         ensures { IsExact is_memory result (bound_row self.now component listed.now) }
     {
         let Some(class) = self.class(listed.class.as_bytes()) else {
@@ -135,7 +145,11 @@ fn lacks_callback(kind: Kind, methods: &[Option<MethodNo>]) -> bool
 }
 
 #[tactic(auto, using(crate::proofs::BoundLaws::rows_next, crate::proofs::BoundLaws::rows_all))]
-fn bind_rows(alloc: Global, binder: &Binder<'_>, listed: &[ListedRow]) -> Result<ComponentTable, ListFault>
+fn bind_rows(
+    alloc: Global,
+    binder: &Binder<'_>,
+    listed: &[ListedRow],
+) -> Result<ComponentTable, ListFault>
     requires { length listed.now ≤ 256 }
     ensures { IsExact is_memory result (bound_of binder.now listed.now) }
 {

@@ -65,11 +65,7 @@ fn named_exits(component: u32, kind: Kind, names: &Array) -> Result<u8, ListFaul
 }
 
 /// The exits of a component that has these names for them, or none.
-pub(crate) fn read_exits(
-    component: u32,
-    kind: Kind,
-    names: Option<&Array>,
-) -> Result<u8, ListFault>
+pub(crate) fn read_exits(component: u32, kind: Kind, names: Option<&Array>) -> Result<u8, ListFault>
     ensures { IsExact is_memory result (exits_in component kind (option_map (λ a. array_view a.now) names.entry)) }
 {
     match names {

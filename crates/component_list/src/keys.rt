@@ -104,13 +104,7 @@ fn earlier<'a>(first: Option<&'a str>, second: Option<&'a str>) -> Option<&'a st
     match (first, second) {
         (None, _) => second,
         (Some(_), None) => first,
-        (Some(key), Some(other)) => {
-            if key < other {
-                first
-            } else {
-                second
-            }
-        }
+        (Some(key), Some(other)) => { if key < other { first } else { second } }
     }
 }
 

@@ -24,3 +24,6 @@ pub use fault::{KeyText, ListFault};
 pub use lifecycle::{edge, edge_count};
 pub use listed::{Listed, ListedRow};
 pub use reading::read_list;
+
+#[cfg(test)]
+mod tests;

@@ -9,4 +9,4 @@ pub returns-in_err-mask : goal.returns-in_err-mask
 returns-in_err-mask c =
     let p = err_from_is_err_and c.from_residual.result c.from_residual.ensures.1 in
     rw (p.1, p.2) (reached_end (is_memory c.in_err-mask.field-0.0) (add_exit c.args.component c.args.kind (array_view c.args.names.now)) 0 c.loop-place.place
-        (item_count (array_view c.args.names.now)) c.loop-place.mask c.in_err-mask.field-0.0 c.loop-place.invariant (omega arith) c.in_err-mask.ensures)
+    (item_count (array_view c.args.names.now)) c.loop-place.mask c.in_err-mask.field-0.0 c.loop-place.invariant (omega arith) c.in_err-mask.ensures)
