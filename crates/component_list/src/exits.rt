@@ -33,8 +33,8 @@ fn default_exits(kind: Kind) -> u8
     }
 }
 
-// The bytes of a list are too few for a name past the last number, so such a name counts as want of
-// memory.
+// A list of 4294967295 bytes has fewer names than that; a name past the last number would count as want
+// of memory.
 fn add_exit(
     component: u32,
     kind: Kind,

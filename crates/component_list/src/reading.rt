@@ -85,7 +85,6 @@ fn read_root(alloc: Global, root: &Table) -> Result<Listed, ListFault>
 /// The rows that the text of a component list says, or its first fault.
 #[tactic(auto, unfolding(crate::specs::Reading::listed_of))]
 pub fn read_list(alloc: Global, bytes: &[u8]) -> Result<Listed, ListFault>
-    requires { length bytes.now ≤ 4294967295 }
     ensures exact { IsExact is_memory result (listed_of bytes.now) }
     ensures list { IfOk result IsReadList }
 {
