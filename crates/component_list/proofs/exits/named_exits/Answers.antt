@@ -1,0 +1,12 @@
+use Rattle.std.proofs.Common.{arith}
+use Rattle.std.proofs.lemmas.Result.{err_from_is_err_and}
+use Rattle.toml.specs.View.{array_view}
+use Rattle.ns_base.proofs.StepLaws.{reached_end}
+use Rattle.component_list.specs.Reading.{add_exit, is_memory, item_count}
+use Rattle.component_list.proofs.exits.named_exits.Goals as goal
+
+pub returns-in_err-mask : goal.returns-in_err-mask
+returns-in_err-mask c =
+    let p = err_from_is_err_and c.from_residual.result c.from_residual.ensures.1 in
+    rw (p.1, p.2) (reached_end (is_memory c.in_err-mask.field-0.0) (add_exit c.args.component c.args.kind (array_view c.args.names.now)) 0 c.loop-place.place
+    (item_count (array_view c.args.names.now)) c.loop-place.mask c.in_err-mask.field-0.0 c.loop-place.invariant (omega arith) c.in_err-mask.ensures)

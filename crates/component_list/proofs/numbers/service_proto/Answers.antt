@@ -1,0 +1,16 @@
+use Rattle.component_list.proofs.numbers.service_proto.Goals as goal
+
+pub returns-in-1 : goal.returns-in-1
+returns-in-1 c = rw c.in-1.is c.find_proto.ensures
+
+pub returns-in-2 : goal.returns-in-2
+returns-in-2 c = rw c.in-2.is c.find_proto-in-2.ensures
+
+pub returns-in-3 : goal.returns-in-3
+returns-in-3 c = rw c.in-3.is c.find_proto-in-3.ensures
+
+pub returns-in-4 : goal.returns-in-4
+returns-in-4 c = rw c.in-4.is c.find_proto-in-4.ensures
+
+pub returns-in-5 : goal.returns-in-5
+returns-in-5 c = rw c.in-5.is c.find_proto-in-5.ensures
