@@ -410,7 +410,6 @@ fn call(app: &App, method: MethodNo, index: u32, op: u8, args: Args) -> Act
     }
 }
 
-
 fn call_gives(app: &App, named: Option<Named>) -> Gives
     ensures { result ≡ spec.call_gives app.now named }
 {

@@ -18,13 +18,31 @@ const M: u32 = 11;
 type Call = (&'static str, u32, u32, &'static [MethodNo], bool);
 
 static CALLS: [Call; 14] = [
-    ("a method and what overrides it", M, 1, &[MethodNo(0), MethodNo(1)], false),
+    (
+        "a method and what overrides it",
+        M,
+        1,
+        &[MethodNo(0), MethodNo(1)],
+        false,
+    ),
     ("a superclass of no file", M, 2, &[MethodNo(2)], true),
     ("another class of no file", M, 3, &[MethodNo(2)], true),
     ("an array of numbers", M, 4, &[], true),
     ("a lock call", M, 5, &[], true),
-    ("an interface, inherited from a class without it", M, 6, &[MethodNo(6)], true),
-    ("an abstract method that overrides", M, 7, &[MethodNo(0)], false),
+    (
+        "an interface, inherited from a class without it",
+        M,
+        6,
+        &[MethodNo(6)],
+        true,
+    ),
+    (
+        "an abstract method that overrides",
+        M,
+        7,
+        &[MethodNo(0)],
+        false,
+    ),
     ("the first of two methods", M, 8, &[MethodNo(8)], false),
     ("a direct call", M, 9, &[MethodNo(0)], false),
     ("a static call", M, 10, &[MethodNo(10)], false),
