@@ -1,6 +1,7 @@
 #!/bin/sh
 # Measures the class hierarchy, the targets of calls and what calls assign, beside reading and linking the same file, in
-# one run: on a chain of classes, on interfaces that cross, each also at four times the size, and on files that are named.
+# one run: on a chain of classes, on interfaces that cross, each also at four times the size, on as many entries as the limit
+# and one more (which has to be refused), and on files that are named.
 # Needs rt and python3. Prints seconds, medians of five turns, and the ratio of hierarchy and targets to reading.
 #
 # usage: call_times.sh [FILE.dex ...]
@@ -17,10 +18,14 @@ for shape in chain crossing; do
         PYTHONDONTWRITEBYTECODE=1 python3 "$top/bench/make_hierarchy.py" $shape $count "$work/$shape-$count.dex"
     done
 done
+for count in 16777216 16777217; do
+    PYTHONDONTWRITEBYTECODE=1 python3 "$top/bench/make_hierarchy.py" entries $count "$work/entries-$count.dex"
+done
 build_on "$work/chain-2000.dex"
 
 PYTHONDONTWRITEBYTECODE=1 python3 - "$work/crates/call_times/out/call_times" \
-    "$work/chain-2000.dex" "$work/chain-8000.dex" "$work/crossing-2000.dex" "$work/crossing-8000.dex" "$@" <<'PYTHON'
+    "$work/chain-2000.dex" "$work/chain-8000.dex" "$work/crossing-2000.dex" "$work/crossing-8000.dex" \
+    "$work/entries-16777216.dex" "$work/entries-16777217.dex" "$@" <<'PYTHON'
 import os, statistics, subprocess, sys
 
 program, *files = sys.argv[1:]
@@ -40,5 +45,7 @@ for path in files:
     linked, built, found, assigned = (statistics.median(column) for column in zip(*turns))
     ratio = (built + found) / linked if linked else 0
     name = os.path.basename(path)
+    if within != ('false' if name == 'entries-16777217.dex' else 'true'):
+        sys.exit(f'{name}: {within} is wrong: the limit is 16,777,216 entries')
     print(f'{name:24}{linked:9.3f}{built:11.3f}{found:9.3f}{assigned:9.3f}{ratio:8.2f}{peak // 1024:6} MB  {within}')
 PYTHON

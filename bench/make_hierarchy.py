@@ -1,11 +1,12 @@
 #!/usr/bin/env python3
 """Writes a DEX 035 file whose class hierarchy is hard on whoever asks it, with a call of `f` on every class.
 
-usage: make_hierarchy.py chain|crossing|sample COUNT OUT
+usage: make_hierarchy.py chain|crossing|entries|sample COUNT OUT
 
 chain: COUNT classes, each the subclass of the one before it; every eighth one declares `f`.
 crossing: COUNT interfaces, each below the one before it and the seventh before it; of each hundredth one there is a class
 with a method `f`.
+entries: a call graph of COUNT entries, at least 16,776,528: 5,792 classes in a chain that all declare `f`, and static calls.
 sample: the small application of the tests of `crates/nosleep/src/tests/hierarchy.rt`; COUNT is not used.
 """
 import sys
@@ -14,6 +15,7 @@ from dex_writer import Class, Code, Ids, lay_out
 
 PUBLIC, PRIVATE, STATIC, INTERFACE, ABSTRACT = 1, 2, 8, 0x200, 0x400
 VIRTUAL, ON_INTERFACE = 0x6E, 0x72
+FULL = 5792
 OBJECT, RUNNABLE, SOURCE = "Ljava/lang/Object;", "Ljava/lang/Runnable;", "x"
 NOTHING = ("V", ())
 
@@ -44,14 +46,12 @@ def crossing(count):
     return rows + classes, ON_INTERFACE
 
 
-def caller(rows, opcode):
-    """A class whose one method calls f on each type. The units are made once the ids are known."""
-    row = Class("Lm/M;", PUBLIC, OBJECT, (RUNNABLE,), SOURCE)
-    method = ("Lm/M;", "m", NOTHING)
-    code = Code(1, 0, 1, [])
-    row.directs.append((method, PUBLIC | STATIC, code))
-    called = [(other.name, "f", NOTHING) for other in rows]
-    return row, method, code, called
+def entries(count):
+    rows = []
+    for i in range(FULL):
+        rows.append(Class(f"Lc/{i:06};", PUBLIC, rows[-1].name if rows else OBJECT, (), SOURCE))
+        declare(rows[-1])
+    return rows, VIRTUAL, count - FULL * (FULL + 1) // 2
 
 
 def call(opcode, ids, method, register=0):
@@ -106,21 +106,30 @@ def sample():
     return lay_out(ids, list(row.values()), lambda texts, others: None)
 
 
-def file_of(rows, opcode):
-    row, method, code, called = caller(rows, opcode)
+def file_of(rows, opcode, statics=0):
+    """The classes, and one whose method m calls f on each of them, and so many static methods of its own."""
+    row = Class("Lm/M;", PUBLIC, OBJECT, (RUNNABLE,), SOURCE)
+    code = Code(1, 0, 1, [])
+    method = ("Lm/M;", "m", NOTHING)
+    own = [("Lm/M;", f"s{n:05}", NOTHING) for n in range(statics)]
+    row.directs.append((method, PUBLIC | STATIC, code))
+    row.directs += [(name, PUBLIC | STATIC, Code(0, 0, 0, [0x000E])) for name in own]
+    called = [(other.name, "f", NOTHING) for other in rows]
     classes = rows + [row]
     types = {OBJECT, RUNNABLE, "V", *(other.name for other in classes)}
-    ids = Ids([SOURCE], types, [NOTHING], [], [method, *called])
+    ids = Ids([SOURCE], types, [NOTHING], [], [method, *own, *called])
     code.units += [0x0012]
     for name in called:
-        code.units += [1 << 12 | opcode, ids.method[name], 0]
+        code.units += call(opcode, ids, name)
+    for name in own:
+        code.units += [0x0071, ids.method[name], 0]
     code.units += [0x000E]
     return lay_out(ids, classes, lambda texts, others: None)
 
 
 def main():
     shape, count, out = sys.argv[1:]
-    shapes = {"chain": chain, "crossing": crossing}
+    shapes = {"chain": chain, "crossing": crossing, "entries": entries}
     with open(out, "wb") as file:
         file.write(sample() if shape == "sample" else file_of(*shapes[shape](int(count))))
 
