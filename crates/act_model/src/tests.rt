@@ -1,6 +1,6 @@
 //! Joins, and how an act changes the tags of a row.
 use crate::{Act, Gives, Returned, Throws, join, tag_after, tag_called, tag_thrown};
-use app_model::{LockUse, Tag};
+use app_model::{By, LockUse, Tag};
 use dalvik::Args;
 use ns_base::LockNo;
 
