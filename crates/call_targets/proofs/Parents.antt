@@ -1,7 +1,7 @@
 -- A class may be of a type where it has its name, or one of its parents may be of it.
-use Rattle.std.proofs.Common.{◌≡◌, ℕ, ◌||◌, ◌&&◌, Bool, true, false, length, refl, sym, ap, ◌∙◌, inl, inr, ⊎_elim, eqb, eq-eqb, Contains, Option, Some, None, subst}
+use Rattle.std.proofs.Common.{List, slice_get, slice_set, replicate, zero, suc, [], ◌∷◌, ◌≡◌, ℕ, ◌||◌, ◌&&◌, Bool, true, false, length, refl, sym, ap, ◌∙◌, inl, inr, ⊎_elim, eqb, eq-eqb, Contains, Option, Some, None, subst}
 use Rattle.std.specs.Prelude.{is_none}
-use Rattle.std.specs.List.{list_any, range_with_len}
+use Rattle.std.specs.List.{range_with_len}
 use Rattle.std.proofs.lemmas.Bool.{and_parts, eqb-true, false≢true, or_cases, or_left, or_right}
 use Rattle.ns_base.specs.declared.rows.TypeNo.{TypeNo}
 use Rattle.app_model.specs.Ancestors.{IsAncestor, IsParent, further, its_parent}
@@ -10,14 +10,13 @@ use Rattle.app_model.specs.Parts.{AppParts, ClassParts}
 use Rattle.app_model.specs.Sound.{IsSoundApp}
 use Rattle.app_model.proofs.HierarchyLaws.{subtypes_told}
 use Rattle.class_graph.proofs.Lists.{any_found, any_there, class_known, read_of, same_class, same_test}
-use Rattle.call_targets.specs.Below.{may_be}
-
-abbrev pub parent_may : AppParts → (kind : ℕ) → Option TypeNo → Bool
-parent_may app kind None = false
-parent_may app kind (Some u) = may_be_sub app (Some u.0) kind
+use Rattle.call_targets.specs.Below.{AreDecided, mark_in, any_may, may_be, may_be_at, super_may}
+use Rattle.std.proofs.lemmas.List.{get_or-map}
+use Rattle.std.proofs.lemmas.Option.{get_or_from_slice_get, slice_get_within}
+use Rattle.class_graph.proofs.Lists.{class_found, there_at}
 
 abbrev pub parents_may : AppParts → (kind : ℕ) → ClassParts → Bool
-parents_may app kind class = parent_may app kind class.parent || list_any (λ (u : TypeNo). may_be_sub app (Some u.0) kind) class.interfaces
+parents_may app kind class = super_may app kind class.parent || any_may app kind class.interfaces
 
 module _ (app : AppParts) (sound : IsSoundApp app) (kind : ℕ) (class : ClassParts) (there : Contains app.classes class) where
   -- the parent on the way up
@@ -36,8 +35,8 @@ module _ (app : AppParts) (sound : IsSoundApp app) (kind : ℕ) (class : ClassPa
       ((subtypes_told app sound.ranges p v).0 e)))
 
   of_parent : (p : ℕ) → IsParent class p → may_be_sub app (Some p) kind ≡ true → parents_may app kind class ≡ true
-  of_parent p (inl e) h = or_left (parent_may app kind class.parent) _ (ap (parent_may app kind) e ∙ h)
-  of_parent p (inr c) h = or_right (parent_may app kind class.parent) _ (any_there (λ (u : TypeNo). may_be_sub app (Some u.0) kind) class.interfaces (record { 0 = p }) c h)
+  of_parent p (inl e) h = or_left (super_may app kind class.parent) _ (ap (super_may app kind) e ∙ h)
+  of_parent p (inr c) h = or_right (super_may app kind class.parent) _ (any_there (λ (u : TypeNo). may_be_sub app (Some u.0) kind) class.interfaces (record { 0 = p }) c h)
 
   -- ---- an unknown type above
   unknown_up : has_unknown_above app class.name.0 ≡ true → (p : ℕ) × IsParent class p × (has_unknown_above app p ≡ true)
@@ -84,7 +83,7 @@ module _ (app : AppParts) (sound : IsSoundApp app) (kind : ℕ) (class : ClassPa
           or_right (is_sub app class.name.0 kind) _ (ap (λ b. b && has_unknown_above app class.name.0) parts.0 ∙ unknown_down p i parts.1))
           (or_cases (is_sub app p kind) _ e)
 
-      of_super : (o : Option TypeNo) → class.parent ≡ o → parent_may app kind o ≡ true → (is_sub app class.name.0 kind || (is_none (class_of_type app.classes kind) && has_unknown_above app class.name.0)) ≡ true
+      of_super : (o : Option TypeNo) → class.parent ≡ o → super_may app kind o ≡ true → (is_sub app class.name.0 kind || (is_none (class_of_type app.classes kind) && has_unknown_above app class.name.0)) ≡ true
       of_super None e h = absurd (false≢true h)
       of_super (Some u) e h = through u.0 (inl e) h
 
@@ -93,5 +92,35 @@ module _ (app : AppParts) (sound : IsSoundApp app) (kind : ℕ) (class : ClassPa
           (λ same. or_left (is_sub app class.name.0 kind) _ ((subtypes_told app sound.ranges class.name.0 kind).1 (inl (eqb-true class.name.0 kind same))))
           (λ p. ⊎_elim (of_super class.parent refl)
           (λ i. let f = any_found (λ (u : TypeNo). may_be_sub app (Some u.0) kind) class.interfaces i in through f.0.0 (inr f.1) f.2)
-          (or_cases (parent_may app kind class.parent) _ p))
+          (or_cases (super_may app kind class.parent) _ p))
           (or_cases (eqb class.name.0 kind) _ e)
+
+pub may_at : (app : AppParts) (kind c : ℕ) (class : ClassParts) → slice_get app.classes c ≡ Some class → may_be_at app kind c ≡ may_be app kind class
+may_at app kind c class e =
+    get_or-map (may_be app kind) app.classes c class false (slice_get_within app.classes c class e) ∙ ap (may_be app kind) (get_or_from_slice_get app.classes c class class e)
+
+pub parent_marked : (app : AppParts) (kind t c : ℕ) → class_of_type app.classes t ≡ Some c → may_be_at app kind c ≡ may_be_sub app (Some t) kind
+parent_marked app kind t c e =
+    let found = class_found app.classes t c e in
+    may_at app kind c found.0 found.1 ∙ ap (λ n. may_be_sub app (Some n) kind) found.2
+
+pub class_step : (app : AppParts) (kind c : ℕ) (class : ClassParts) → IsSoundApp app → slice_get app.classes c ≡ Some class → may_be_at app kind c ≡ (eqb class.name.0 kind || parents_may app kind class)
+class_step app kind c class sound e = may_at app kind c class e ∙ may_step app sound kind class (there_at app.classes c class e)
+
+pub decided_none : (app : AppParts) (kind n : ℕ) → AreDecided app kind (replicate n None)
+decided_none app kind n c mark e = absurd (off n c e)
+  where
+    off : (n c : ℕ) {b : Bool} → mark_in (slice_get (replicate n None) c) ≡ Some b → ⊥
+    off zero c e = cc
+    off (suc n) zero e = cc
+    off (suc n) (suc c) e = off n c e
+
+pub decided_set : (app : AppParts) (kind : ℕ) (marks : List (Option Bool)) (c : ℕ) (b : Bool) → AreDecided app kind marks → b ≡ may_be_at app kind c → AreDecided app kind (slice_set marks c (Some b))
+decided_set app kind marks c b before is k mark e = go marks c k (λ g. before k mark g) (λ same. is ∙ ap (may_be_at app kind) same) e
+  where
+    go : (ms : List (Option Bool)) (c j : ℕ) → (mark_in (slice_get ms j) ≡ Some mark → mark ≡ may_be_at app kind k) → (c ≡ j → b ≡ may_be_at app kind k) → mark_in (slice_get (slice_set ms c (Some b)) j) ≡ Some mark → mark ≡ may_be_at app kind k
+    go [] c j old new e = old e
+    go (m ∷ ms) zero zero old new e = let f : b ≡ mark = cc in sym f ∙ new refl
+    go (m ∷ ms) zero (suc j) old new e = old e
+    go (m ∷ ms) (suc c) zero old new e = old e
+    go (m ∷ ms) (suc c) (suc j) old new e = go ms c j old (λ same. new (ap suc same)) e
