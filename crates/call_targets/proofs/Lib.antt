@@ -6,6 +6,7 @@ pub mod Keys
 pub mod Listed
 pub mod Look
 pub mod Numbering
+pub mod Parents
 pub mod Rising
 pub mod Roots
 pub mod Rows

@@ -1,7 +1,8 @@
 -- The classes of the application that a receiver of one type may have, and the roots among them.
-use Rattle.std.specs.Prelude.{ℕ, ◌≡◌, ◌<◌, not, Bool, true, false, List, length, map, Option, Some, None, is_none, slice_index_or, Contains}
-use Rattle.std.specs.List.{All}
+use Rattle.std.specs.Prelude.{ℕ, ◌≡◌, ◌<◌, not, Bool, true, false, List, length, map, Option, Some, None, is_none, slice_get, slice_index_or, Contains}
+use Rattle.std.specs.List.{All, list_any}
 use Rattle.ns_base.specs.declared.rows.ClassNo.{ClassNo}
+use Rattle.ns_base.specs.declared.rows.TypeNo.{TypeNo}
 use Rattle.app_model.specs.Hierarchy.{class_of_type, may_be_sub, superclass_at}
 use Rattle.app_model.specs.Parts.{AppParts, ClassParts}
 
@@ -41,3 +42,19 @@ pub record AreRoots (app : AppParts) (kind n : ℕ) (roots : List ClassNo) : Typ
 pub record IsBelow (app : AppParts) (kind : ℕ) (below : BelowParts) : Type 0 where
   pub marks : AreMarks app kind below.marks
   pub roots : AreRoots app kind (length app.classes) below.roots
+
+-- ---- classes that are decided
+abbrev pub mark_in : Option (Option Bool) → Option Bool
+mark_in None = None
+mark_in (Some mark) = mark
+
+abbrev pub AreDecided : AppParts → (kind : ℕ) → List (Option Bool) → Type 0
+AreDecided app kind marks = (c : ℕ) (mark : Bool) → mark_in (slice_get marks c) ≡ Some mark → mark ≡ may_be_at app kind c
+
+-- an object of the superclass, or of an interface, may be of the type
+abbrev pub super_may : AppParts → (kind : ℕ) → Option TypeNo → Bool
+super_may app kind None = false
+super_may app kind (Some u) = may_be_sub app (Some u.0) kind
+
+abbrev pub any_may : AppParts → (kind : ℕ) → List TypeNo → Bool
+any_may app kind kinds = list_any (λ (u : TypeNo). may_be_sub app (Some u.0) kind) kinds

@@ -2,6 +2,7 @@
 //!
 //! - `sources` tells what decides what a call can call, `declared` which classes declare a method.
 //! - `numbers` goes over the instructions once and numbers the sets that calls share.
+//! - `order` has the classes with their parents first.
 //! - `below` has the classes that a receiver may have, and `found` makes a set of what look-ups find.
 //! - `laws` has what holds of every call.
 //! - `looking` looks up one set, and `making` makes them all, and counts their entries.
@@ -18,6 +19,7 @@ mod laws;
 mod looking;
 mod making;
 mod numbers;
+mod order;
 mod sources;
 
 pub use building::targets;

@@ -12,6 +12,7 @@ ghost use Rattle.call_targets.specs.Sources.{IsIndex, named_parts, row_from};
 
 use crate::below::{Below, find_below};
 use crate::found::row_of;
+use crate::order::parents_first;
 use crate::sources::{Index, Source};
 use app_model::{App, TargetRow};
 use class_graph::{ClassGraph, Found};
@@ -23,6 +24,7 @@ use std::marker::Model;
 #[derive(Drop)]
 pub(crate) struct Maker {
     index: Index,
+    order: Vec<ClassNo>,
     kind: Option<TypeNo>,
     below: Below,
 }
@@ -78,14 +80,16 @@ fn look_one(app: &App, classes: &ClassGraph, class: TypeNo, source: Source) -> F
 }
 
 impl Maker {
-    pub fn new(alloc: Global, index: Index) -> Maker
-        ensures { (app : AppParts) → IsIndex app index → IsMaker app result }
+    pub fn new(alloc: Global, app: &App, index: Index) -> Result<Maker, AllocError>
+        requires { IsIndex app.now index }
+        ensures { IfOk result (IsMaker app.now) }
     {
-        Maker {
+        Ok(Maker {
             index,
+            order: parents_first(alloc, app)?,
             kind: None,
             below: Below::none(alloc),
-        }
+        })
     }
 
     // Makes the classes below a type ready.
@@ -103,7 +107,7 @@ impl Maker {
         if self.kind == Some(kind) {
             return Ok(());
         }
-        self.below = find_below(alloc, app, classes, kind)?;
+        self.below = find_below(alloc, app, classes, &self.order, kind)?;
         self.kind = Some(kind);
         Ok(())
     }

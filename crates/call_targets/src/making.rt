@@ -64,7 +64,7 @@ fn order_of(alloc: Global, plan: &[SetRow]) -> Result<Vec<(Option<u32>, usize)>,
 }
 
 impl Sets {
-    fn new(alloc: Global, plan: Vec<SetRow>) -> Result<Sets, AllocError>
+    fn begun(alloc: Global, plan: Vec<SetRow>) -> Result<Sets, AllocError>
         ensures { IfOk result (λ sets. (sets.plan ≡ plan.items) × ((app : AppParts) → AreSets app sets)) }
     {
         let mut rows = Vec::with_capacity(alloc, plan.len())?;
@@ -188,8 +188,10 @@ pub(crate) fn make_sets(
     ensures few { IfOk result (λ rows. weigh app.now plan.items ≤ limit_of Targets) }
     ensures over { IfErr result (IsOver app.now plan.items) }
 {
-    let mut maker = Maker::new(alloc, index);
-    let Ok(mut sets) = Sets::new(alloc, plan) else {
+    let Ok(mut maker) = Maker::new(alloc, app, index) else {
+        return Err(TargetFault::Memory);
+    };
+    let Ok(mut sets) = Sets::begun(alloc, plan) else {
         return Err(TargetFault::Memory);
     };
     sets.fill_in_order(alloc, app, classes, &mut maker)?;

@@ -1,6 +1,6 @@
 use Rattle.std.proofs.Common.{◌≡◌, arith, length, refl}
 use Rattle.call_targets.proofs.Fills.{places_begun, sets_begun}
-use Rattle.call_targets.proofs.making.Sets.new.Goals as goal
+use Rattle.call_targets.proofs.making.Sets.begun.Goals as goal
 
 pub invariant_of-result : goal.invariant_of-result
 invariant_of-result c =
