@@ -13,3 +13,4 @@ pub mod Judged
 pub mod Listed
 pub mod PathTags
 pub mod Receivers
+pub mod Bound

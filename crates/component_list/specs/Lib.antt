@@ -1,0 +1,4 @@
+pub mod Listed
+pub mod Keys
+pub mod Reading
+pub mod Binding
