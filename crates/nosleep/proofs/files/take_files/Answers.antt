@@ -1,6 +1,7 @@
-use Rattle.std.proofs.Common.{refl, [], ◌∷◌, ◌++◌, map, ap, ◌∙◌, sym, arith, length, ◌≡◌, Some}
+use Rattle.std.proofs.Common.{refl, [], ◌∷◌, map, ap, ◌∙◌, sym, arith, length, ◌≡◌, Some}
 use Rattle.std.proofs.lemmas.List.{map-append}
 use Rattle.std.proofs.lemmas.Option.{slice_get_read}
+use Rattle.nosleep.specs.Words.{FileName}
 use Rattle.nosleep.proofs.Taking.{keeps_next, none_taken, stops_failed, stops_long, takes_on}
 use Rattle.nosleep.proofs.files.take_files.Goals as goal
 
@@ -15,22 +16,22 @@ returns-in_err-push-in-Whole-clause-keeps g c = keeps_next _ _ _ _ _ c.loop-i.in
 
 pub returns-in-TooLong-clause-taken : goal.returns-in-TooLong-clause-taken
 returns-in-TooLong-clause-taken g c =
-    stops_long _ _ _ _ _ _ _ _ _ c.loop-i.invariant.keeps c.loop-i.invariant.taken (slice_get_read _ _ _ _ refl c.loop-i-test.true c.index-names-i.is ∙ ap Some c.file.view_is) (rw c.in-TooLong.is at c.in_ok-bytes.ensures.reading)
+    stops_long _ _ _ _ c.read_whole.new.shelf _ _ _ _ c.loop-i.invariant.keeps c.loop-i.invariant.taken (slice_get_read _ _ _ _ refl c.loop-i-test.true c.index-names-i.is ∙ ap (λ (f : FileName). Some f) (sym c.file.view_is)) (rw c.in-TooLong.is at c.in_ok-bytes.ensures.reading)
 
 pub returns-in-TooLong-clause-keeps : goal.returns-in-TooLong-clause-keeps
 returns-in-TooLong-clause-keeps g c = keeps_next _ _ _ _ _ c.loop-i.invariant.keeps c.read_whole.ensures.keeps
 
 pub returns-in-Fault-clause-taken : goal.returns-in-Fault-clause-taken
 returns-in-Fault-clause-taken g c =
-    stops_failed _ _ _ _ _ _ _ _ _ c.loop-i.invariant.keeps c.loop-i.invariant.taken (slice_get_read _ _ _ _ refl c.loop-i-test.true c.index-names-i.is ∙ ap Some c.file.view_is) (rw c.in-Fault.is at c.in_ok-bytes.ensures.reading)
+    stops_failed _ _ _ _ _ _ _ _ _ c.loop-i.invariant.keeps c.loop-i.invariant.taken (slice_get_read _ _ _ _ refl c.loop-i-test.true c.index-names-i.is ∙ ap (λ (f : FileName). Some f) (sym c.file.view_is)) (rw c.in-Fault.is at c.in_ok-bytes.ensures.reading)
 
 pub returns-in-Fault-clause-keeps : goal.returns-in-Fault-clause-keeps
 returns-in-Fault-clause-keeps g c = keeps_next _ _ _ _ _ c.loop-i.invariant.keeps c.read_whole.ensures.keeps
 
 pub loop-i-preserved : goal.loop-i-preserved
 loop-i-preserved g c = 
-    let there = slice_get_read _ _ _ _ refl c.loop-i-test.true c.index-names-i.is ∙ ap Some c.file.view_is in
-    let more = takes_on _ _ _ _ _ _ _ _ _ c.loop-i.invariant.keeps c.loop-i.invariant.taken there c.in-Whole.bytes.items (rw c.in-Whole.is at c.in_ok-bytes.ensures.reading) in
+    let there = slice_get_read _ _ _ _ refl c.loop-i-test.true c.index-names-i.is ∙ ap (λ (f : FileName). Some f) (sym c.file.view_is) in
+    let more = takes_on _ _ _ _ c.read_whole.new.shelf _ _ _ _ c.loop-i.invariant.keeps c.loop-i.invariant.taken there c.in-Whole.bytes.items (rw c.in-Whole.is at c.in_ok-bytes.ensures.reading) in
     let made = ap (λ xs. map (λ b. b.items) xs) c.in_ok-push-in-Whole.ensures.items ∙ map-append (λ b. b.items) c.loop-i.all.items (c.in-Whole.bytes ∷ []) in
     record { taken = rw made more; keeps = keeps_next _ _ _ _ _ c.loop-i.invariant.keeps c.read_whole.ensures.keeps }
 
