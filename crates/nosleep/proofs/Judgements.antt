@@ -1,22 +1,29 @@
 -- From what the steps give to the answer, and from the answer to why it comes.
-use Rattle.std.proofs.Common.{◌≡◌, ℕ, ◌<◌, ◌≤◌, Bool, true, false, List, [], ◌∷◌, length, Option, Some, None, Result, Ok, Err, IfOk, ◌⊎◌, inl, inr, refl, ◌∙◌, ap, sym, subst, arith, slice_get, get_or}
+use Rattle.std.proofs.Common.{◌≡◌, ◌==◌, ◌&&◌, ℕ, ◌<◌, ◌≤◌, Bool, true, false, List, [], ◌∷◌, length, Option, Some, None, Result, Ok, Err, IfOk, ◌⊎◌, inl, inr, refl, ◌∙◌, ap, sym, subst, arith, slice_get, get_or}
 use Rattle.std.proofs.lemmas.Bool.{false≢true}
 use Rattle.std.proofs.lemmas.Option.{slice_get-get_or, slice_get_within}
 use Rattle.ns_base.specs.Answers.{limit_of}
+use Rattle.ns_base.specs.Steps.{Unless}
 use Rattle.ns_base.specs.declared.answers.Counted.{Counted}
 use Rattle.ns_base.specs.declared.answers.Counted.TheVariants.{Files}
 use Rattle.ns_base.specs.declared.answers.Exit.{Exit}
 use Rattle.ns_base.specs.declared.answers.Exit.TheVariants as exits
 use Rattle.ns_base.specs.Outside.{Rose}
-use Rattle.app_model.specs.Components.{ComponentParts}
-use Rattle.app_model.specs.Parts.{AppParts}
+use Rattle.app_model.specs.Components.{BelongsTo, ComponentParts}
+use Rattle.app_model.specs.Parts.{AppParts, ClassParts}
+use Rattle.app_model.specs.Slots.{class_text, text_of_class}
+use Rattle.app_model.specs.Names.{type_text}
+use Rattle.app_model.specs.Sound.{IsSoundApp}
 use Rattle.app_model.specs.Subject.{SubjectParts}
+use Rattle.app_model.specs.declared.component.Kind.{Kind}
+use Rattle.app_model.specs.declared.component.Kind.TheVariants as kinds
 use Rattle.app_link.specs.declared.link_fault.LinkFault.{LinkFault}
 use Rattle.app_link.specs.declared.link_fault.LinkFault.TheVariants as link
 use Rattle.app_link.specs.Linking.{IsLinked}
 use Rattle.app_link.proofs.FirstFault.{linked_once}
 use Rattle.component_list.specs.Binding.{bound_of}
 use Rattle.component_list.specs.Listed.{ListedParts}
+use Rattle.component_list.specs.Reading as lists
 use Rattle.component_list.specs.declared.fault.ListFault.{ListFault}
 use Rattle.dex_file.specs.Content.{FileContent}
 use Rattle.dex_file.specs.Exact.{IsFault}
@@ -24,15 +31,18 @@ use Rattle.dex_file.specs.declared.fault.FileFault.{FileFault}
 use Rattle.dex_file.specs.declared.fault.FileFault.TheVariants.{Dex, Code, Memory}
 use Rattle.flow_model.specs.declared.policy.Violation.{Violation}
 use Rattle.flow_model.specs.Policy.{AreViolations}
+use Rattle.flow_model.proofs.TestLaws.{both, same_number}
 use Rattle.report_text.specs.Heads.{heads_text}
 use Rattle.straight_code.specs.Path.{path_subject}
-use Rattle.straight_code.specs.Verdict.{IsSafe, IsVerdict}
+use Rattle.straight_code.specs.Receiver.{is_receiver}
+use Rattle.straight_code.specs.Verdict.{IsSafe}
+use Rattle.straight_code.proofs.Bound.{bound_receiver}
 use Rattle.nosleep.specs.declared.refusing.Answer.{Answer}
 use Rattle.nosleep.specs.Answer.{AreJudged, AreTold, BytesComeTo, AreTakenTo, IsAnswer, IsOutcome, usage, many_files, unread, too_long, read, starved}
 use Rattle.nosleep.specs.Files.{ComesTo, IsApplication, bad_list, bad_file, bad_link, unbound, not_built, judged, named_by}
-use Rattle.nosleep.specs.Judged.{IsJudged, IsJudgement}
-use Rattle.nosleep.specs.Outcome.{IsTold}
-use Rattle.nosleep.specs.Refusals.{IsRefused, IsRefusedAs, InFile, InLink, Refusal, refusal_limit, refusal_text}
+use Rattle.nosleep.specs.Judged.{IsJudged, IsJudgement, is_one_receiver, is_receiver_kind, is_receiver_row}
+use Rattle.nosleep.specs.Outcome.{HasOutcome, IsTold}
+use Rattle.nosleep.specs.Refusals.{IsRefused, IsRefusedAs, InFile, InLink, InList, Refusal, refusal_limit, refusal_text}
 use Rattle.nosleep.specs.Reading.{WhereTold}
 use Rattle.nosleep.specs.Words.{FileName, Form, Receiver, Verify, dex_names, files_of, form_of}
 use Rattle.nosleep.proofs.ReadLaws.{contents_once, has_content}
@@ -61,8 +71,52 @@ told_answer app list violations (Ok a) are safe t same =
     told_by app list violations a.text.items a.exit are (λ none. safe (ap (λ (vs : List Violation). Some vs) none)) t same
 told_answer app list violations (Err e) are safe t same = tt
 
+-- ---- from the steps to what the files come to
+-- a fault that is owed unless it is want of memory
+owed : (b : Bool) (P : Type 0) → b ≡ false → Unless b P → P
+owed true P e u = absurd (false≢true (sym e))
+owed false P e u = u
+
+module _ {E : Type 0} (listed : Result (List ListedParts) ListFault) (files : List (List ℕ)) where
+  pub has_outcome : (result : Result SubjectParts Refusal) (r : Result Answer E) → ComesTo listed files result → IfOk r (λ a. IsOutcome result a.text.items a.exit)
+      → IfOk r (λ a. HasOutcome listed files a.text.items a.exit)
+  has_outcome result (Ok a) comes is = (result, comes, is)
+  has_outcome result (Err e) comes is = tt
+
+  -- a list is refused, whose reading or binding is exact
+  pub list_outcome : {T : Type 0} (wanted : Result T ListFault) (fault : ListFault) (r : Result Answer E) → Unless (lists.is_memory fault) (wanted ≡ Err fault)
+      → (wanted ≡ Err fault → ComesTo listed files (Err (InList fault))) → IfOk r (λ a. IsRefused (InList fault) a.text.items a.exit)
+      → IfOk r (λ a. HasOutcome listed files a.text.items a.exit)
+  list_outcome wanted fault (Ok a) exact comes is = (Err (InList fault), comes (owed (lists.is_memory fault) (wanted ≡ Err fault) is.0 exact), is)
+  list_outcome wanted fault (Err e) exact comes is = tt
+
+-- what the code asks of a row
+pub receiver_row : (app : AppParts) (row : ComponentParts) (class : ClassParts) (name : List ℕ) (result : Bool) → row.kind ≡ kinds.Receiver → row.exits ≡ 1
+    → slice_get app.classes row.class.0 ≡ Some class → name ≡ type_text app class.name.0 → result ≡ is_receiver app name → result ≡ is_receiver_row row app
+unfolding class_text
+receiver_row app row class name result kind exits there text is =
+    let named : class_text app row.class.0 ≡ type_text app class.name.0 = ap (λ (o : Option ClassParts). text_of_class app o) there in
+    let whole : is_receiver_row row app ≡ is_receiver app (class_text app row.class.0) = rw (kind, exits) refl in
+    is ∙ ap (λ (n : List ℕ). is_receiver app n) (text ∙ sym named) ∙ sym whole
+
+-- the subject that is judged has the list that is bound
+receiver_kind : (kind : Kind) → is_receiver_kind kind ≡ true → kind ≡ kinds.Receiver
+receiver_kind kinds.Receiver e = refl
+receiver_kind kinds.Activity e = absurd (false≢true e)
+receiver_kind kinds.Service e = absurd (false≢true e)
+receiver_kind kinds.Runnable e = absurd (false≢true e)
+
+pub same_list : (app : AppParts) (list : List ComponentParts) → IsSoundApp app → BelongsTo app list → is_one_receiver list app ≡ true → (path_subject app).list ≡ list
+same_list app [] sound belongs is = absurd (false≢true is)
+same_list app (row ∷ []) sound belongs is =
+    let kind = both (is_receiver_kind row.kind) (row.exits == 1 && is_receiver app (class_text app row.class.0)) is in
+    let exits = both (row.exits == 1) (is_receiver app (class_text app row.class.0)) kind.1 in
+    let same = bound_receiver app sound (class_text app row.class.0) exits.1 row (receiver_kind row.kind kind.0) (same_number row.exits 1 exits.0) (belongs.each 0 row (omega arith)) in
+    ap (λ (r : ComponentParts). r ∷ []) (sym same)
+same_list app (row ∷ other ∷ rows) sound belongs is = absurd (false≢true is)
+
 -- ---- a refusal is neither an acceptance nor want of memory
-abbrev AsRefused : Exit → Type 0
+abbrev pub AsRefused : Exit → Type 0
 AsRefused exit = (exit ≡ exits.Bad) ⊎ (exit ≡ exits.Limit)
 
 refused_by : (limit : Option Counted) (wanted text : List ℕ) (exit : Exit) → IsRefusedAs limit wanted text exit → AsRefused exit
@@ -90,7 +144,7 @@ accepted_safe (Ok x) text is = (x, refl, is.1.1)
 accepted_safe (Err refusal) text is = absurd (not_accepted (refused_exit refusal text exits.Accept is))
 
 -- ---- files that can be judged are
-abbrev AsJudged : Exit → Type 0
+abbrev pub AsJudged : Exit → Type 0
 AsJudged exit = (exit ≡ exits.Accept) ⊎ (exit ≡ exits.Reports)
 
 judgement_exit : (x : SubjectParts) (text : List ℕ) (exit : Exit) → IsJudgement x text exit → AsJudged exit
@@ -155,11 +209,11 @@ module _ (listed : Result (List ListedParts) ListFault) (files : List (List ℕ)
   judged_outcome _ text exit (not_built others other components e at b none) o =
       let here = bound_here others other _ e at b in let same = same_ok components list _ here.1 bound in
       absurd (none (subst (λ (a : AppParts). IsJudged components a) (sym here.0) (subst (λ (c : List ComponentParts). IsJudged c app) (sym same) j)))
-  judged_outcome _ text exit (judged others other components e at b yes_judged same_list) o = judgement_exit (path_subject other) text exit o
+  judged_outcome _ text exit (judged others other components e at b yes_judged own_list) o = judgement_exit (path_subject other) text exit o
 
 module _ (listed : Result (List ListedParts) ListFault) (files : List (List ℕ)) where
   outcome_of_judged : (s r : Result SubjectParts Refusal) (x : SubjectParts) (text : List ℕ) (exit : Exit) → s ≡ Ok x → ComesTo listed files s → ComesTo listed files r → IsOutcome r text exit → AsJudged exit
-  outcome_of_judged _ r x text exit same (judged rows app list l is b j same_list) c o = judged_outcome listed files rows app list l is b j r text exit c o
+  outcome_of_judged _ r x text exit same (judged rows app list l is b j own_list) c o = judged_outcome listed files rows app list l is b j r text exit c o
   outcome_of_judged _ r x text exit same (bad_list fault e) c o = absurd (not_both x _ _ same refl)
   outcome_of_judged _ r x text exit same (bad_file rows i fault e fails) c o = absurd (not_both x _ _ same refl)
   outcome_of_judged _ r x text exit same (bad_link rows contents fault e are linked) c o = absurd (not_both x _ _ same refl)
@@ -172,7 +226,7 @@ form_outcome (Verify list dex) [] r x text exit p c o = absurd p
 form_outcome (Verify list dex) (bytes ∷ files) r x text exit p c o = outcome_of_judged _ files (Ok x) r x text exit refl p c o
 
 -- ---- from the answer to words and files to why it comes
-abbrev AreTakenOf : (List ℕ → Option (List ℕ)) → Form → List (List ℕ) → Type 0
+abbrev pub AreTakenOf : (List ℕ → Option (List ℕ)) → Form → List (List ℕ) → Type 0
 AreTakenOf content form bytes = AreTakenTo content (files_of form) (length (files_of form)) bytes
 
 widened : (exit : Exit) → AsJudged exit → (exit ≡ exits.Accept) ⊎ ((exit ≡ exits.Reports) ⊎ (exit ≡ exits.Memory))

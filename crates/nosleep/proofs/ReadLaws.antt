@@ -1,10 +1,11 @@
 -- Files whose contents are read, one by one.
-use Rattle.std.proofs.Common.{◌≡◌, ℕ, ◌<◌, ◌+◌, List, [], ◌∷◌, ◌++◌, length, Option, Some, Result, Ok, Err, ⊎_elim, refl, sym, ap, subst, ◌∙◌, arith, length-append, slice_get, get_or}
-use Rattle.std.proofs.lemmas.Option.{slice_get-get_or, slice_get_within}
-use Rattle.dex_file.specs.Content.{FileContent}
+use Rattle.std.proofs.Common.{◌≡◌, ℕ, ◌<◌, ◌+◌, List, [], ◌∷◌, ◌++◌, length, Option, Some, None, Result, Ok, Err, ⊎_elim, refl, sym, ap, subst, ◌∙◌, arith, length-append, slice_get, get_or}
+use Rattle.std.proofs.lemmas.Option.{slice_get-get_or, slice_get_past, slice_get_within}
+use Rattle.std.proofs.lemmas.Bool.{cases_lt}
+use Rattle.dex_file.specs.Content.{FileContent, class_text}
 use Rattle.dex_file.specs.Reading.{content_of}
 use Rattle.dex_file.specs.declared.fault.FileFault.{FileFault}
-use Rattle.nosleep.specs.Files.{AreContents, AreReadTo, Reads}
+use Rattle.nosleep.specs.Files.{AreContents, AreReadTo, Reads, class_in}
 use Rattle.nosleep.proofs.Places.{pushed, same_places}
 
 same_some : {X : Type 0} (x y : X) → Some x ≡ Some y → x ≡ y
@@ -45,3 +46,19 @@ has_content (file ∷ files) contents i bytes are there =
   has_nonempty files (c ∷ cs) i bytes are there lt =
       let r = are.1 i (get_or (c ∷ cs) i c) (slice_get-get_or (c ∷ cs) i c lt) in
       (_, ap content_of (same_some bytes r.bytes (sym there ∙ r.there)) ∙ r.read)
+
+-- the class that is named in a file that is there, and in one that is not
+pub class_there : (files : List (List ℕ)) (contents : List FileContent) (i : ℕ) (bytes : List ℕ) (row : ℕ) (name : List ℕ) → AreContents files contents → slice_get files i ≡ Some bytes
+    → ((content : FileContent) → content_of bytes ≡ Ok content → name ≡ class_text content row) → name ≡ class_in (slice_get contents i) row
+class_there files contents i bytes row name are there is =
+    let has = has_content files contents i bytes are there in
+    let lt = slice_get_within files i bytes there in
+    let at = slice_get-get_or contents i has.0 (omega (arith, lt, are.0)) in
+    let r = are.1 i (get_or contents i has.0) at in
+    let read = ap content_of (same_some bytes r.bytes (sym there ∙ r.there)) ∙ r.read in
+    is (get_or contents i has.0) read ∙ sym (ap (λ (o : Option FileContent). class_in o row) at)
+
+pub class_absent : (files : List (List ℕ)) (contents : List FileContent) (i row : ℕ) → AreContents files contents → slice_get files i ≡ None → [] ≡ class_in (slice_get contents i) row
+class_absent files contents i row are none =
+    ⊎_elim (λ lt. let at = slice_get-get_or files i [] lt in absurd (let no : ⊥ = cc in no))
+      (λ ge. sym (ap (λ (o : Option FileContent). class_in o row) (slice_get_past contents i (omega (arith, ge, are.0))))) (cases_lt i (length files))

@@ -11,6 +11,7 @@ use Rattle.app_link.specs.declared.link_fault.LinkFault.{LinkFault}
 use Rattle.app_link.specs.declared.link_fault.LinkFault.TheVariants as link
 use Rattle.component_list.specs.declared.fault.ListFault.{ListFault}
 use Rattle.component_list.specs.declared.fault.ListFault.TheVariants as listed
+use Rattle.component_list.specs.Reading as lists
 use Rattle.report_text.specs.CodeFaults.{bad_code_text}
 use Rattle.report_text.specs.DexFaults.{bad_dex_text}
 use Rattle.report_text.specs.Limits.{over_limit_text}
@@ -59,10 +60,6 @@ refusal_limit (InLink name fault) = link_limit fault
 refusal_limit NotBuilt = None
 
 -- ---- want of memory is no refusal
-abbrev pub is_list_memory : ListFault → Bool
-is_list_memory listed.Memory = true
-is_list_memory fault = false
-
 abbrev pub is_file_memory : FileFault → Bool
 is_file_memory (file.Dex dex.Memory) = true
 is_file_memory (file.Dex fault) = false
@@ -75,7 +72,7 @@ is_link_memory link.Memory = true
 is_link_memory fault = false
 
 abbrev pub is_memory : Refusal → Bool
-is_memory (InList fault) = is_list_memory fault
+is_memory (InList fault) = lists.is_memory fault
 is_memory (InFile number fault) = is_file_memory fault
 is_memory (InLink name fault) = is_link_memory fault
 is_memory NotBuilt = false

@@ -101,6 +101,7 @@ fn judge_list(alloc: Global, app: &App, list: &[ComponentRow]) -> Result<Answer,
     if !is_one_receiver(app, list) {
         return refuse_app(alloc);
     }
+    app.told();
     match judge(alloc, app)? {
         None => refuse_app(alloc),
         Some(violations) => tell(alloc, app, list, &violations),
@@ -113,9 +114,12 @@ fn is_receiver_row(app: &App, row: &ComponentRow) -> bool
     ensures is { result ≡ is_receiver_row row.now app.now }
     ensures small { IsTrue result → IsSmallApp app.now }
 {
-    matches!(row.kind, Kind::Receiver)
-        && row.exits == 1
-        && is_receiver(app, app.type_text(app.class(row.class).name))
+    match row.kind {
+        Kind::Receiver => {
+            row.exits == 1 && is_receiver(app, app.type_text(app.class(row.class).name))
+        }
+        Kind::Activity | Kind::Service | Kind::Runnable => false,
+    }
 }
 
 // Whether one receiver is listed, and the application is that receiver.
