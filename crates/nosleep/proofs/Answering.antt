@@ -29,7 +29,7 @@ small_limits (Verify list files) (suc k) d lt = in_files files k (omega (arith, 
   in_files (name ∷ names) (suc i) less = in_files names i (omega (arith, less))
 
 pub short_taken : (content : List ℕ → Option (List ℕ)) (form : Form) (files : List FileName) (all : List (Vec ℕ Global)) → files ≡ files_of form
-    → AreTakenTo content files (length files) (map (λ v. v.items) all) → All (λ v. length v.items ≤ 33554432) all
+    → AreTakenTo content files (length files) (map (λ v. v.items) all) → All (λ v. vec_len v ≤ 33554432) all
 short_taken content form files all same taken k d lt =
     let len = length-map all (λ (v : Vec ℕ Global). v.items) in
     let within : k < length files = omega (arith, lt, len, taken.len) in
@@ -37,7 +37,8 @@ short_taken content form files all same taken k d lt =
     let there = slice_get-map (λ (v : Vec ℕ Global). v.items) all k ∙ ap (λ (o : Option (Vec ℕ Global)). option_map (λ v. v.items) o) (slice_get-get_or all k d lt) in
     let short = (taken.each k (get_or files k (dex_file [])) (get_or all k d).items at there).limit in
     let small = subst (λ (fs : List FileName). k < length fs → limit_of (get_or fs k (dex_file [])).limit ≤ 33554432) (sym same) (small_limits form k (dex_file [])) within in
-    omega (arith, short, small)
+    let kept = (get_or all k d).ok in
+    omega (arith, short, small, kept)
 
 module _ (words : List (List ℕ)) (content : List ℕ → Option (List ℕ)) (before now : ℕ) where
   -- an answer of this text and exit

@@ -53,7 +53,7 @@ pub answer_files-requires-clause-short : goal.answer_files-requires-clause-short
 answer_files-requires-clause-short g c =
     let taken = rw c.in-Whole.is at c.in_ok-i.ensures.taken in
     let short = short_taken (g.F.Shelf.content c.args.shelf.now) (form_by c.in-Some.asked) c.deref.result.now c.in-Whole.files.items (c.deref.ensures.value ∙ c.in_ok-names.ensures) taken in
-    rw c.deref-in-Whole.ensures.value (λ k d lt. let at = short k d lt in omega (arith, at))
+    rw c.deref-in-Whole.ensures.value short
 
 pub returns-clause-answer : goal.returns-clause-answer
 returns-clause-answer g c =
