@@ -2,7 +2,9 @@
 use Rattle.std.proofs.Common.{◌≡◌, ℕ, ◌+◌, ◌≤◌, List, [], ◌++◌, length, take, drop, Option, Some, sym, ap, subst, ◌∙◌, arith, append_assoc, append-nil, length-append}
 use Rattle.std.proofs.lemmas.List.{length-take}
 use Rattle.std.proofs.Math.Seq.{take-add}
+use Rattle.ns_base.specs.Answers.{limit_of}
 use Rattle.ns_base.specs.Outside.{IsRead}
+use Rattle.ns_base.specs.declared.answers.Counted.{Counted}
 use Rattle.nosleep.specs.Reading.{IsFront, WhereTold, HasTurn, HasEnding}
 use Rattle.nosleep.specs.declared.reading.Ending.{Ending}
 use Rattle.nosleep.specs.declared.reading.Ending.TheVariants.{Whole, TooLong, Fault}
@@ -36,11 +38,11 @@ WroteAll-nothing before between now text first none bs told =
     none (bs ++ text) (first bs told) ∙ ap (λ (xs : List ℕ). Some xs) (append-nil (bs ++ text))
 
 -- how reading ends, from its last read: earlier reads left the same file and no lower count of faults
-pub HasEnding-last : (file same : Option (List ℕ)) (old new : List ℕ) (before between now : ℕ) (ending : Ending) → same ≡ file → WhereTold file (λ bs. IsFront old bs) → length old ≤ 33554432 → before ≤ between → HasTurn same old new between now (Last ending) → HasEnding file new before now ending
-HasEnding-last file same old new before between now Whole e front below later turn =
-    (λ bs told. turn.1 ∙ turn.0 bs (e ∙ told) (front bs told), subst (λ (xs : List ℕ). length xs ≤ 33554432) (sym turn.1) below)
-HasEnding-last file same old new before between now TooLong e front below later turn = λ bs told. turn bs (e ∙ told) (front bs told)
-HasEnding-last file same old new before between now Fault e front below later turn = omega arith
+pub HasEnding-last : (which : Counted) (file same : Option (List ℕ)) (old new : List ℕ) (before between now : ℕ) (ending : Ending) → same ≡ file → WhereTold file (λ bs. IsFront old bs) → length old ≤ limit_of which → before ≤ between → HasTurn which same old new between now (Last ending) → HasEnding which file new before now ending
+HasEnding-last which file same old new before between now Whole e front below later turn =
+    (λ bs told. turn.1 ∙ turn.0 bs (e ∙ told) (front bs told), subst (λ (xs : List ℕ). length xs ≤ limit_of which) (sym turn.1) below)
+HasEnding-last which file same old new before between now TooLong e front below later turn = λ bs told. turn bs (e ∙ told) (front bs told)
+HasEnding-last which file same old new before between now Fault e front below later turn = omega arith
 
 -- nothing was written
 pub WroteAll-none : (taken : Option (List ℕ)) → WroteAll taken taken []

@@ -1,5 +1,10 @@
 pub mod Answer
+pub mod Asked
+pub mod Files
+pub mod Judged
+pub mod Outcome
 pub mod Reading
-pub mod Told
+pub mod Refusals
 pub mod Words
+pub mod Taking
 pub mod Writing

@@ -1,7 +1,7 @@
 -- How a file is read: piece by piece, to its end or past the limit.
 use Rattle.std.specs.Prelude.{◌≡◌, ◌<◌, ◌≤◌, ℕ, List, [], length, take, Option, Some}
 use Rattle.ns_base.specs.Answers.{limit_of}
-use Rattle.ns_base.specs.declared.answers.Counted.TheVariants.{FileBytes}
+use Rattle.ns_base.specs.declared.answers.Counted.{Counted}
 use Rattle.ns_base.specs.Outside.{Rose}
 use Rattle.nosleep.specs.declared.reading.Turn.{Turn}
 use Rattle.nosleep.specs.declared.reading.Turn.TheVariants.{More, Last}
@@ -18,25 +18,25 @@ WhereTold file P = (bs : List ℕ) → file ≡ Some bs → P bs
 abbrev pub IsFront : List ℕ → List ℕ → Type 0
 IsFront front bs = front ≡ take (length front) bs
 
--- what one read does to the bytes that were read before
-abbrev pub HasTurn : Option (List ℕ) → List ℕ → List ℕ → ℕ → ℕ → Turn → Type 0
-HasTurn file old new before now More =
-    WhereTold file (λ bs. IsFront old bs → IsFront new bs) × (length old < length new) × (length new ≤ limit_of FileBytes)
-HasTurn file old new before now (Last Whole) = WhereTold file (λ bs. IsFront old bs → old ≡ bs) × (new ≡ old)
-HasTurn file old new before now (Last TooLong) = WhereTold file (λ bs. IsFront old bs → limit_of FileBytes < length bs)
-HasTurn file old new before now (Last Fault) = Rose before now
+-- what one read does to the bytes that were read before, of a file with this limit
+abbrev pub HasTurn : Counted → Option (List ℕ) → List ℕ → List ℕ → ℕ → ℕ → Turn → Type 0
+HasTurn which file old new before now More =
+    WhereTold file (λ bs. IsFront old bs → IsFront new bs) × (length old < length new) × (length new ≤ limit_of which)
+HasTurn which file old new before now (Last Whole) = WhereTold file (λ bs. IsFront old bs → old ≡ bs) × (new ≡ old)
+HasTurn which file old new before now (Last TooLong) = WhereTold file (λ bs. IsFront old bs → limit_of which < length bs)
+HasTurn which file old new before now (Last Fault) = Rose before now
 
 -- how the reading of a file ends, with these bytes
-abbrev pub HasEnding : Option (List ℕ) → List ℕ → ℕ → ℕ → Ending → Type 0
-HasEnding file bytes before now Whole = WhereTold file (λ bs. bytes ≡ bs) × (length bytes ≤ limit_of FileBytes)
-HasEnding file bytes before now TooLong = WhereTold file (λ bs. limit_of FileBytes < length bs)
-HasEnding file bytes before now Fault = Rose before now
+abbrev pub HasEnding : Counted → Option (List ℕ) → List ℕ → ℕ → ℕ → Ending → Type 0
+HasEnding which file bytes before now Whole = WhereTold file (λ bs. bytes ≡ bs) × (length bytes ≤ limit_of which)
+HasEnding which file bytes before now TooLong = WhereTold file (λ bs. limit_of which < length bs)
+HasEnding which file bytes before now Fault = Rose before now
 
 -- what came of reading a file
-abbrev pub HasReading : Option (List ℕ) → ℕ → ℕ → Reading → Type 0
-HasReading file before now (readings.Whole bytes) = HasEnding file bytes.items before now Whole
-HasReading file before now readings.TooLong = HasEnding file [] before now TooLong
-HasReading file before now readings.Fault = HasEnding file [] before now Fault
+abbrev pub HasReading : Counted → Option (List ℕ) → ℕ → ℕ → Reading → Type 0
+HasReading which file before now (readings.Whole bytes) = HasEnding which file bytes.items before now Whole
+HasReading which file before now readings.TooLong = HasEnding which file [] before now TooLong
+HasReading which file before now readings.Fault = HasEnding which file [] before now Fault
 
 -- reading leaves what the shelf tells, and its count does not fall
 pub record KeepsShelf {F : Type 0} (content : F → List ℕ → Option (List ℕ)) (faults : F → ℕ) (old new : F) : Type 0 where

@@ -4,7 +4,11 @@
 
 mod adapters;
 mod answer;
+mod contents;
+mod files;
+mod judging;
 mod reading;
+mod refusing;
 #[cfg(test)]
 mod tests;
 mod top;

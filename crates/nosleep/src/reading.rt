@@ -40,14 +40,19 @@ pub enum Turn {
     Last(Ending),
 }
 
-/// Reads a file to its end, or until more bytes were taken than the limit allows.
-pub fn read_whole<F: Shelf>(alloc: Global, shelf: &mut F, name: &str) -> Result<Reading, AllocError>
-    ensures reading { IfOk result (HasReading (F.content shelf.old name.now) (F.faults shelf.old) (F.faults shelf.new)) }
+/// Reads a file to its end, or until more bytes were taken than its limit allows.
+pub fn read_whole<F: Shelf>(
+    alloc: Global,
+    shelf: &mut F,
+    name: &str,
+    which: Counted,
+) -> Result<Reading, AllocError>
+    ensures reading { IfOk result (HasReading which (F.content shelf.old name.now) (F.faults shelf.old) (F.faults shelf.new)) }
     ensures keeps { KeepsShelf F.content F.faults shelf.old shelf.new }
 {
     let mut buffer = vec![in alloc; 0u8; PIECE]?;
     let mut bytes = Vec::new(alloc);
-    match read_pieces(shelf, name, &mut buffer, &mut bytes)? {
+    match read_pieces(shelf, name, which, &mut buffer, &mut bytes)? {
         Ending::Whole => Ok(Reading::Whole(bytes)),
         Ending::TooLong => Ok(Reading::TooLong),
         Ending::Fault => Ok(Reading::Fault),
@@ -58,16 +63,17 @@ pub fn read_whole<F: Shelf>(alloc: Global, shelf: &mut F, name: &str) -> Result<
 fn read_pieces<F: Shelf>(
     shelf: &mut F,
     name: &str,
+    which: Counted,
     buffer: &mut [u8],
     bytes: &mut Vec<u8>,
 ) -> Result<Ending, AllocError>
     requires room { 0 < length buffer.old }
     requires empty { vec_len bytes.old ≡ 0 }
-    ensures ending { IfOk result (HasEnding (F.content shelf.old name.now) bytes.new.items (F.faults shelf.old) (F.faults shelf.new)) }
+    ensures ending { IfOk result (HasEnding which (F.content shelf.old name.now) bytes.new.items (F.faults shelf.old) (F.faults shelf.new)) }
     ensures keeps { KeepsShelf F.content F.faults shelf.old shelf.new }
 {
     loop {
-        if let Turn::Last(ending) = read_turn(shelf, name, buffer, bytes)? {
+        if let Turn::Last(ending) = read_turn(shelf, name, which, buffer, bytes)? {
             return Ok(ending);
         }
     }
@@ -77,12 +83,13 @@ fn read_pieces<F: Shelf>(
 fn read_turn<F: Shelf>(
     shelf: &mut F,
     name: &str,
+    which: Counted,
     buffer: &mut [u8],
     bytes: &mut Vec<u8>,
 ) -> Result<Turn, AllocError>
     requires room { 0 < length buffer.old }
-    requires below { vec_len bytes.old ≤ 33554432 }
-    ensures turn { IfOk result (HasTurn (F.content shelf.old name.now) bytes.old.items bytes.new.items (F.faults shelf.old) (F.faults shelf.new)) }
+    requires below { vec_len bytes.old ≤ limit_of which }
+    ensures turn { IfOk result (HasTurn which (F.content shelf.old name.now) bytes.old.items bytes.new.items (F.faults shelf.old) (F.faults shelf.new)) }
     ensures keeps { KeepsShelf F.content F.faults shelf.old shelf.new }
 {
     match shelf.read(name, bytes.len() as u64, buffer) {
@@ -91,7 +98,7 @@ fn read_turn<F: Shelf>(
         Ok(count) => {
             let (front, _) = buffer.split_at(count);
             bytes.extend_from_slice(front)?;
-            if bytes.len() as u64 > limit(Counted::FileBytes) {
+            if bytes.len() as u64 > limit(which) {
                 Ok(Turn::Last(Ending::TooLong))
             } else {
                 Ok(Turn::More)

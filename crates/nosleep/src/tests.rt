@@ -4,6 +4,7 @@ use crate::top::nosleep;
 use dex_bytes::adler32;
 use ns_base::{Exit, Failed, Shelf, Sink};
 use ns_memory::{MemoryShelf, MemorySink};
+use lists::{BAD_LISTS, LIST, LISTS, List};
 use rows::{ACCEPTED, JUDGED, MAKE, NOT_BUILT, OTHERS, R, REFUSED, RETURN, Row, Told, WORKS};
 use std::alloc::{AllocError, Global};
 use std::fs;
@@ -11,6 +12,7 @@ use std::test::Fail;
 
 mod hierarchy;
 mod layout;
+mod lists;
 mod rows;
 mod sample;
 
@@ -27,14 +29,17 @@ const HELP: Told = (
 ",
 );
 
-// Words over the sample `a` and the empty file `e`, and the answer.
-static ANSWERS: [(&[&str], Told); 8] = [
+// Words over the sample `a`, the empty file `e` and the list `l`, and the answer.
+static ANSWERS: [(&[&str], Told); 15] = [
     (&["receiver", "a", "Lapp/R;"], ACCEPTED),
     (
         &["receiver", "e", "Lapp/R;"],
         (Exit::Bad, "bad dex 0 Short 0\n"),
     ),
-    (&["receiver", "a", "Lapp/Q;"], NOT_BUILT),
+    (
+        &["receiver", "a", "Lapp/Q;"],
+        (Exit::Bad, "bad list NoClass 0\n"),
+    ),
     (
         &["receiver", "b c\\", "Lapp/R;"],
         (Exit::ReadFault, "cannot read b\\x20c\\x5c\n"),
@@ -42,8 +47,27 @@ static ANSWERS: [(&[&str], Told); 8] = [
     (&[], HELP),
     (&["receiver", "--json", "Lapp/R;"], HELP),
     (&["receiver", "a"], HELP),
-    (&["verify", "a", "Lapp/R;"], HELP),
+    (&["verify", "a"], HELP),
+    (&["verify", "--x", "l", "a"], HELP),
+    (&["verify", "l", "a"], ACCEPTED),
+    (
+        &["verify", "l", "a", "a"],
+        (Exit::Bad, "bad link DuplicateClass Lapp/R; 1 0\n"),
+    ),
+    (
+        &["verify", "l", "a", "e"],
+        (Exit::Bad, "bad dex 1 Short 0\n"),
+    ),
+    (
+        &["verify", "a", "e"],
+        (Exit::Bad, "bad list Text\n"),
+    ),
+    (&["verify", "l", "--x"], (Exit::ReadFault, "cannot read --x\n")),
+    (&SEVENTEEN, (Exit::Limit, "limit Files\n")),
 ];
+
+// Seventeen DEX files, of which none is there.
+const SEVENTEEN: [&str; 19] = ["verify", "x", "x", "x", "x", "x", "x", "x", "x", "x", "x", "x", "x", "x", "x", "x", "x", "x", "x"];
 
 fn texts(alloc: Global, words: &[&str]) -> Result<Vec<String>, AllocError> {
     words
@@ -52,12 +76,18 @@ fn texts(alloc: Global, words: &[&str]) -> Result<Vec<String>, AllocError> {
         .try_collect(alloc)
 }
 
-// The file `a` and the empty file `e`, in pieces of 300 bytes; these calls fail.
-fn shelf_of(alloc: Global, file: &[u8], fail: &[u64]) -> Result<MemoryShelf, Fail> {
+// The file `a`, the empty file `e` and the list `l`, in pieces of 300 bytes; these calls fail.
+fn shelf_with(alloc: Global, list: &str, file: &[u8], fail: &[u64]) -> Result<MemoryShelf, Fail> {
     let mut shelf = MemoryShelf::new(alloc, 300, fail.to_vec(alloc)?);
     shelf.add(String::from_str(alloc, "a")?, file.to_vec(alloc)?)?;
     shelf.add(String::from_str(alloc, "e")?, Vec::new(alloc))?;
+    shelf.add(String::from_str(alloc, "l")?, list.as_bytes().to_vec(alloc)?)?;
     Ok(shelf)
+}
+
+// The same with the list of the sample's receiver.
+fn shelf_of(alloc: Global, file: &[u8], fail: &[u64]) -> Result<MemoryShelf, Fail> {
+    shelf_with(alloc, LIST, file, fail)
 }
 
 // Whether a run ends so, and the sink then holds this text.
@@ -126,6 +156,49 @@ fn put(file: &mut [u8], at: usize, bytes: &[u8]) {
     for (place, byte) in file.iter_mut().skip(at).zip(bytes) {
         *place = *byte;
     }
+}
+
+// What the first list shows that is answered otherwise.
+fn first_wrong_list(alloc: Global, lists: &[List]) -> Result<Option<&'static str>, Fail> {
+    let file = layout::dex(alloc, &R, WORKS)?;
+    for (shows, list, told) in lists.iter() {
+        let sink = MemorySink::new(alloc, 1000, 1000, Vec::new(alloc))?;
+        let shelf = shelf_with(alloc, list, &file, &[])?;
+        if !is_told(alloc, &["verify", "l", "a"], shelf, sink, told)? {
+            return Ok(Some(*shows));
+        }
+    }
+    Ok(None)
+}
+
+#[test]
+fn a_list_says_what_is_judged(rt: HostRuntime) -> Result<(), Fail> {
+    assert_eq!(rt; first_wrong_list(rt.alloc(), &LISTS)?, None);
+    Ok(())
+}
+
+#[test]
+fn bad_lists_are_refused_by_name_and_place(rt: HostRuntime) -> Result<(), Fail> {
+    assert_eq!(rt; first_wrong_list(rt.alloc(), &BAD_LISTS)?, None);
+    Ok(())
+}
+
+#[test]
+fn the_file_that_fails_is_named(rt: HostRuntime) -> Result<(), Fail> {
+    let alloc = rt.alloc();
+    let file = layout::dex(alloc, &R, WORKS)?;
+    for call in 0..7u64 {
+        let told = match call {
+            0..=1 => (Exit::ReadFault, "cannot read l\n"),
+            2..=5 => UNREAD,
+            _ => ACCEPTED,
+        };
+        assert!(rt;
+            tells(alloc, &["verify", "l", "a"], &file, &[call], &told)?,
+            "call {call}"
+        );
+    }
+    Ok(())
 }
 
 #[test]

@@ -1,13 +1,13 @@
 //! The top call: all that the program does.
 ghost use Rattle.std.specs.Prelude.{◌≡◌, ◌≢◌, ◌⊎◌, ℕ, List, Some, map, string_bytes};
 ghost use Rattle.ns_base.specs.Outside.{Rose};
-ghost use Rattle.nosleep.specs.Words.{form_of, Receiver};
-ghost use Rattle.nosleep.specs.Answer.{IsAnswer, IsEnd, IsJudgedFile, Judged};
+ghost use Rattle.nosleep.specs.Words.{Form, form_of};
+ghost use Rattle.nosleep.specs.Answer.{AreJudged, AreTold, IsAnswer, IsEnd};
 ghost use Rattle.nosleep.specs.Reading.{KeepsShelf};
-ghost use Rattle.app_model.specs.Parts.{AppParts};
+ghost use Rattle.app_model.specs.Subject.{SubjectParts};
 ghost use Rattle.straight_code.specs.Verdict.{IsSafe};
 
-use crate::answer::{Answer, find_answer};
+use crate::answer::find_answer;
 use crate::writing::write_all;
 use ns_base::{Exit, Failed, Shelf, Sink, Watcher};
 use std::alloc::{AllocError, Global};
@@ -33,13 +33,13 @@ pub fn nosleep<F: Shelf, K: Sink>(
     // After want of memory nothing was written.
     ensures memory { result ≡ Exit.Memory → out.new ≡ out.old }
 
-    // After an accepted file no run of the machine leaves a lock held.
-    ensures sound { result ≡ Exit.Accept → (dex class bs : List ℕ) → form_of (map string_bytes words.now) ≡ Some (Receiver dex class)
-        → F.content shelf.old dex ≡ Some bs → Judged bs class IsSafe }
+    // After accepted files no run of the machine leaves a lock held.
+    ensures sound { result ≡ Exit.Accept → (form : Form) (all : List (List ℕ)) → form_of (map string_bytes words.now) ≡ Some form
+        → AreTold (F.content shelf.old) form all → (x : SubjectParts) × AreJudged form all x × IsSafe x }
 
-    // A told file that can be judged is accepted or reported, unless the outside failed or memory ran out.
-    ensures complete { (dex class bs : List ℕ) (app : AppParts) → form_of (map string_bytes words.now) ≡ Some (Receiver dex class)
-        → F.content shelf.old dex ≡ Some bs → IsJudgedFile bs class app
+    // Told files that can be judged are accepted or reported, unless the outside failed or memory ran out.
+    ensures complete { (form : Form) (all : List (List ℕ)) (x : SubjectParts) → form_of (map string_bytes words.now) ≡ Some form
+        → AreTold (F.content shelf.old) form all → AreJudged form all x
         → ¬ Rose (F.faults shelf.old) (F.faults shelf.new) → ¬ Rose (K.faults out.old) (K.faults out.new)
         → (result ≡ Exit.Accept) ⊎ ((result ≡ Exit.Reports) ⊎ (result ≡ Exit.Memory)) }
 

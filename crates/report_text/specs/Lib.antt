@@ -4,4 +4,5 @@ pub mod Numbers
 pub mod DexFaults
 pub mod CodeFaults
 pub mod LinkFaults
+pub mod ListFaults
 pub mod Limits

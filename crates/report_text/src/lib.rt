@@ -2,7 +2,8 @@
 //!
 //! - `texts` has the lines of the plain answers, and shows names.
 //! - `heads` has the heads of the reports: `heads_text`.
-//! - `dex_faults`, `code_faults` and `link_faults` have the refusals of files, whose numbers `numbers` writes.
+//! - `dex_faults`, `code_faults`, `link_faults` and `list_faults` have the refusals of files, whose numbers `numbers`
+//!   writes.
 //! - `limits` has the refusal of a count.
 #![tactic(auto)]
 
@@ -11,6 +12,7 @@ mod dex_faults;
 mod heads;
 mod limits;
 mod link_faults;
+mod list_faults;
 mod numbers;
 mod texts;
 
@@ -19,6 +21,7 @@ pub use dex_faults::bad_dex;
 pub use heads::heads_text;
 pub use limits::over_limit;
 pub use link_faults::bad_link;
+pub use list_faults::bad_list;
 pub use texts::{accept, cannot_read, not_built, usage};
 
 #[cfg(test)]

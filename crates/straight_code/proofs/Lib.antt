@@ -14,3 +14,4 @@ pub mod Listed
 pub mod OutsideCalls
 pub mod PathTags
 pub mod Receivers
+pub mod Bound

@@ -10,12 +10,12 @@ use Rattle.flow_model.proofs.TestLaws.{both, same_number, none_some}
 use Rattle.straight_code.specs.Receiver.{is_receiver, is_receiver_class, is_callback, is_static_field, has_one_each, has_other_parent}
 use Rattle.straight_code.specs.Verdict.{IsSmallApp}
 
-one_of : {A : Type 0} (xs : List A) → length xs ≡ 1 → (x : A) × (xs ≡ x ∷ [])
+pub one_of : {A : Type 0} (xs : List A) → length xs ≡ 1 → (x : A) × (xs ≡ x ∷ [])
 one_of [] h = absurd (omega (arith, h))
 one_of (x ∷ []) h = (x, refl)
 one_of (x ∷ y ∷ xs) h = absurd (omega (arith, h))
 
-same_text : (xs ys : List ℕ) → bytes_eq xs ys ≡ true → xs ≡ ys
+pub same_text : (xs ys : List ℕ) → bytes_eq xs ys ≡ true → xs ≡ ys
 same_text xs ys h = (bytes_eq-Decides xs ys).0 h
 
 not_true : (b : Bool) → not b ≡ true → b ≡ false
@@ -49,35 +49,40 @@ parent_of app name (Some parent) h = (parent, refl, λ same. true≢false (sym (
 at_most : (m n : ℕ) → nat_le m n ≡ true → m ≤ n
 at_most m n h = grind (arith, nat_tests)
 
-method_facts : (app : AppParts) (o : Option MethodRow) (method : MethodRow) → o ≡ Some method → is_callback app o ≡ true → (method.ins ≤ method.registers) × (name_text app method.name.0 ≡ codes "onReceive")
-method_facts app None method eq h = absurd (none_some method None refl eq)
-method_facts app (Some other) method eq h = subst (λ (m : MethodRow). (m.ins ≤ m.registers) × (name_text app m.name.0 ≡ codes "onReceive")) (same eq) (omega (arith, three, at_least), same_text _ (codes "onReceive") called)
-  where
-    same : Some other ≡ Some method → other ≡ method
-    same p = cc
+-- the callback by its name, prototype, flags and arguments
+pub record IsCallback (app : AppParts) (method : MethodRow) : Type 0 where
+  pub name : name_text app method.name.0 ≡ codes "onReceive"
+  pub proto : is_proto app method.proto.0 (codes "V") (codes "Landroid/content/Context;" ∷ codes "Landroid/content/Intent;" ∷ []) ≡ true
+  pub flags : bit_and method.flags 0x508 ≡ 0
+  pub fits : method.ins ≤ method.registers
 
-    front : Bool
-    front =
-        (bytes_eq (name_text app other.name.0) (codes "onReceive")
-        && is_proto app other.proto.0 (codes "V") (codes "Landroid/content/Context;" ∷ codes "Landroid/content/Intent;" ∷ []))
-        && (bit_and other.flags 0x508 == 0)
+callback_by : (app : AppParts) (method : MethodRow) → is_callback app (Some method) ≡ true → IsCallback app method
+callback_by app method h = record {
+  name = same_text _ (codes "onReceive") front.0;
+  proto = front.1;
+  flags = same_number (bit_and method.flags 0x508) 0 flags.1;
+  fits = omega (arith, same_number method.ins 3 three.1, at_most 3 method.registers all.1);
+} where
+  named : Bool
+  named = bytes_eq (name_text app method.name.0) (codes "onReceive")
 
-    all : ((front && (other.ins == 3)) ≡ true) × (nat_le 3 other.registers ≡ true)
-    all = both (front && (other.ins == 3)) (nat_le 3 other.registers) h
+  typed : Bool
+  typed = is_proto app method.proto.0 (codes "V") (codes "Landroid/content/Context;" ∷ codes "Landroid/content/Intent;" ∷ [])
 
-    three : other.ins ≡ 3
-    three = same_number other.ins 3 (both front (other.ins == 3) all.0).1
+  bare : Bool
+  bare = bit_and method.flags 0x508 == 0
 
-    at_least : 3 ≤ other.registers
-    at_least = at_most 3 other.registers all.1
+  all : ((named && typed && bare && (method.ins == 3)) ≡ true) × (nat_le 3 method.registers ≡ true)
+  all = both (named && typed && bare && (method.ins == 3)) (nat_le 3 method.registers) h
 
-    named : Bool
-    named =
-        bytes_eq (name_text app other.name.0) (codes "onReceive")
-        && is_proto app other.proto.0 (codes "V") (codes "Landroid/content/Context;" ∷ codes "Landroid/content/Intent;" ∷ [])
+  three : ((named && typed && bare) ≡ true) × ((method.ins == 3) ≡ true)
+  three = both (named && typed && bare) (method.ins == 3) all.0
 
-    called : bytes_eq (name_text app other.name.0) (codes "onReceive") ≡ true
-    called = (both (bytes_eq (name_text app other.name.0) (codes "onReceive")) _ (both named (bit_and other.flags 0x508 == 0) (both front (other.ins == 3) all.0).0).0).0
+  flags : ((named && typed) ≡ true) × (bare ≡ true)
+  flags = both (named && typed) bare three.0
+
+  front : (named ≡ true) × (typed ≡ true)
+  front = both named typed flags.0
 
 small_by : (app : AppParts) (name : List ℕ) → (length app.classes ≡ 1) → (length app.methods ≡ 1) → (length app.locks ≡ 1)
     → is_receiver_class app name (slice_get app.classes 0) ≡ true → is_callback app (slice_get app.methods 0) ≡ true → IsSmallApp app
@@ -86,7 +91,7 @@ small_by app name classes methods locks class callback =
     let m = one_of app.methods methods in
     let facts = class_facts app name (slice_get app.classes 0) c.0 (ap (λ (cs : List ClassParts). slice_get cs 0) c.1) class in
     let parent = parent_of app name c.0.parent facts.1 in
-    let method = method_facts app (slice_get app.methods 0) m.0 (ap (λ (ms : List MethodRow). slice_get ms 0) m.1) callback in
+    let method = callback_by app m.0 (subst (λ (ms : List MethodRow). is_callback app (slice_get ms 0) ≡ true) m.1 callback) in
     record {
       class = c.0;
       parent = parent.0;
@@ -96,18 +101,39 @@ small_by app name classes methods locks class callback =
       other = λ same. parent.2 (same ∙ facts.0);
       interfaces = facts.2;
       methods = m.1;
-      called = method.1;
-      fits = method.0;
+      called = method.name;
+      fits = method.fits;
       locks = locks;
     }
 
-pub small_of : (app : AppParts) (name : List ℕ) → is_receiver app name ≡ true → IsSmallApp app
+-- the parts of a receiver
+pub record HasParts (app : AppParts) (name : List ℕ) : Type 0 where
+  pub classes : length app.classes ≡ 1
+  pub methods : length app.methods ≡ 1
+  pub locks : length app.locks ≡ 1
+  pub class : is_receiver_class app name (slice_get app.classes 0) ≡ true
+  pub callback : is_callback app (slice_get app.methods 0) ≡ true
+
+parts_of : (app : AppParts) (name : List ℕ) → is_receiver app name ≡ true → HasParts app name
 unfolding is_receiver
-small_of app name h =
+parts_of app name h =
     let a = both (has_one_each app && is_receiver_class app name (slice_get app.classes 0) && is_static_field (slice_get app.fields 0)) (is_callback app (slice_get app.methods 0)) h in
     let b = both (has_one_each app && is_receiver_class app name (slice_get app.classes 0)) (is_static_field (slice_get app.fields 0)) a.0 in
     let c = both (has_one_each app) (is_receiver_class app name (slice_get app.classes 0)) b.0 in
     let d = both ((length app.classes == 1) && (length app.methods == 1) && (length app.fields == 1)) (length app.locks == 1) c.0 in
     let e = both ((length app.classes == 1) && (length app.methods == 1)) (length app.fields == 1) d.0 in
     let f = both (length app.classes == 1) (length app.methods == 1) e.0 in
-    small_by app name (same_number (length app.classes) 1 f.0) (same_number (length app.methods) 1 f.1) (same_number (length app.locks) 1 d.1) c.1 a.1
+    record {
+      classes = same_number (length app.classes) 1 f.0;
+      methods = same_number (length app.methods) 1 f.1;
+      locks = same_number (length app.locks) 1 d.1;
+      class = c.1;
+      callback = a.1;
+    }
+
+pub small_of : (app : AppParts) (name : List ℕ) → is_receiver app name ≡ true → IsSmallApp app
+small_of app name h = let p = parts_of app name h in small_by app name p.classes p.methods p.locks p.class p.callback
+
+-- its one method is its callback
+pub callback_of : (app : AppParts) (name : List ℕ) → is_receiver app name ≡ true → (method : MethodRow) → app.methods ≡ method ∷ [] → IsCallback app method
+callback_of app name h method methods = callback_by app method (subst (λ (ms : List MethodRow). is_callback app (slice_get ms 0) ≡ true) methods (parts_of app name h).callback)

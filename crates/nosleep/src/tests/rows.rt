@@ -272,7 +272,12 @@ pub static OTHERS: [Row; 13] = [
     ("a goto", R, &[&[0x0128], RETURN], NOT_BUILT),
     ("a branch", R, &[NULL, &[0x0038, 2], RETURN], NOT_BUILT),
     ("a move", R, &[NULL, &[0x0101], RETURN], NOT_BUILT),
-    ("an abstract method", ABSTRACT, &[], NOT_BUILT),
+    (
+        "an abstract method",
+        ABSTRACT,
+        &[],
+        (Exit::Bad, "bad list NoCallback 0\n"),
+    ),
     ("64 lock fields", LOCKS, WORKS, NOT_BUILT),
 ];
 

@@ -1,11 +1,12 @@
 use Rattle.std.proofs.Common.{[], map, string_bytes, refl, inl, inr}
 use Rattle.ns_base.specs.declared.answers.Exit.TheVariants as exits
-use Rattle.nosleep.proofs.Judgements.{judged_exit}
+use Rattle.nosleep.specs.Answer.{starved}
+use Rattle.nosleep.proofs.Judgements.{accepted, judged_exit}
 use Rattle.nosleep.proofs.Pieces.{WroteAll-none}
 use Rattle.nosleep.proofs.top.nosleep.Goals as goal
 
 pub returns-in-Err-clause-answer : goal.returns-in-Err-clause-answer
-returns-in-Err-clause-answer g c = (exits.Memory, [], refl, inl (refl, WroteAll-none _))
+returns-in-Err-clause-answer g c = (exits.Memory, [], starved, inl (refl, WroteAll-none _))
 
 pub returns-in-Ok-write_all-clause-answer : goal.returns-in-Ok-write_all-clause-answer
 returns-in-Ok-write_all-clause-answer g c =
@@ -17,6 +18,10 @@ returns-clause-answer g c =
     let wrote = rw c.deref.ensures.value at c.in-Err-write_all.ensures.part in
     (c.in-Ok.answer.exit, c.in-Ok.answer.text.items, c.in-Ok.ensures.answer, inr (refl, c.in-Ok.ensures.judged, wrote, c.in-Err-write_all.ensures.cause))
 
+pub returns-in-Ok-write_all-clause-sound : goal.returns-in-Ok-write_all-clause-sound
+returns-in-Ok-write_all-clause-sound g c = λ same form all is told.
+    accepted (map string_bytes c.args.words.now) (g.F.Shelf.content c.args.shelf.now) (g.F.Shelf.faults c.args.shelf.now) (g.F.Shelf.faults c.find_answer.new.shelf) form all is told c.in-Ok.answer.text.items c.in-Ok.answer.exit same c.in-Ok.ensures.answer
+
 pub returns-in-Ok-write_all-clause-complete : goal.returns-in-Ok-write_all-clause-complete
-returns-in-Ok-write_all-clause-complete g c = λ dex class bs app form told is quiet calm.
-    judged_exit (map string_bytes c.args.words.now) (g.F.Shelf.content c.args.shelf.now) (g.F.Shelf.faults c.args.shelf.now) (g.F.Shelf.faults c.find_answer.new.shelf) dex class bs form told app is quiet c.in-Ok.answer.text.items c.in-Ok.answer.exit c.in-Ok.ensures.answer
+returns-in-Ok-write_all-clause-complete g c = λ form all x is told judges quiet calm.
+    judged_exit (map string_bytes c.args.words.now) (g.F.Shelf.content c.args.shelf.now) (g.F.Shelf.faults c.args.shelf.now) (g.F.Shelf.faults c.find_answer.new.shelf) form all is told x judges quiet c.in-Ok.answer.text.items c.in-Ok.answer.exit c.in-Ok.ensures.answer

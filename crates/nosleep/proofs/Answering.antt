@@ -1,0 +1,84 @@
+-- From what came of reading the files of a form to the answer.
+use Rattle.std.proofs.Common.{◌≡◌, ◌<◌, ◌≤◌, ℕ, zero, suc, List, [], ◌∷◌, length, map, vec_len, Vec, Global, Option, Some, None, option_map, Result, Ok, Err, IfOk, slice_get, get_or, sym, ap, subst, refl, ◌∙◌, arith}
+use Rattle.std.specs.List.{All}
+use Rattle.std.proofs.lemmas.List.{length-map}
+use Rattle.std.proofs.lemmas.Option.{get_or_from_slice_get, slice_get-get_or, slice_get-map}
+use Rattle.ns_base.specs.Answers.{limit_of}
+use Rattle.ns_base.specs.Outside.{Rose}
+use Rattle.ns_base.specs.declared.answers.Counted.{Counted}
+use Rattle.ns_base.specs.declared.answers.Counted.TheVariants.{Files, FileBytes, ListBytes}
+use Rattle.ns_base.specs.declared.answers.Exit.{Exit}
+use Rattle.ns_base.specs.declared.answers.Exit.TheVariants as exits
+use Rattle.report_text.specs.Texts.{cannot_read_text, usage_text}
+use Rattle.nosleep.specs.declared.refusing.Answer.{Answer}
+use Rattle.nosleep.specs.Answer.{AreTakenTo, IsAnswer, many_files, read, too_long, unread, usage}
+use Rattle.nosleep.specs.Outcome.{FormHasOutcome}
+use Rattle.nosleep.specs.Refusals.{IsOver}
+use Rattle.nosleep.specs.Taking.{IsTooLong, StopsAt}
+use Rattle.nosleep.specs.Words.{FileName, Form, Receiver, Verify, dex_file, dex_names, files_of, form_of}
+
+-- no file of a form may be longer than a DEX file may
+small_limits : (form : Form) (k : ℕ) (d : FileName) → k < length (files_of form) → limit_of (get_or (files_of form) k d).limit ≤ 33554432
+small_limits (Receiver dex class) zero d lt = omega arith
+small_limits (Receiver dex class) (suc k) d lt = absurd (omega (arith, lt))
+small_limits (Verify list files) zero d lt = omega arith
+small_limits (Verify list files) (suc k) d lt = in_files files k (omega (arith, lt)) where
+  in_files : (names : List (List ℕ)) (i : ℕ) → i < length (map dex_file names) → limit_of (get_or (map dex_file names) i d).limit ≤ 33554432
+  in_files [] i less = absurd (omega (arith, less))
+  in_files (name ∷ names) zero less = omega arith
+  in_files (name ∷ names) (suc i) less = in_files names i (omega (arith, less))
+
+pub short_taken : (content : List ℕ → Option (List ℕ)) (form : Form) (files : List FileName) (all : List (Vec ℕ Global)) → files ≡ files_of form
+    → AreTakenTo content files (length files) (map (λ v. v.items) all) → All (λ v. vec_len v ≤ 33554432) all
+short_taken content form files all same taken k d lt =
+    let len = length-map all (λ (v : Vec ℕ Global). v.items) in
+    let within : k < length files = omega (arith, lt, len, taken.len) in
+    let at = slice_get-get_or files k (dex_file []) within in
+    let there = slice_get-map (λ (v : Vec ℕ Global). v.items) all k ∙ ap (λ (o : Option (Vec ℕ Global)). option_map (λ v. v.items) o) (slice_get-get_or all k d lt) in
+    let short = (taken.each k (get_or files k (dex_file [])) (get_or all k d).items at there).limit in
+    let small = subst (λ (fs : List FileName). k < length fs → limit_of (get_or fs k (dex_file [])).limit ≤ 33554432) (sym same) (small_limits form k (dex_file [])) within in
+    let kept = (get_or all k d).ok in
+    omega (arith, short, small, kept)
+
+module _ (words : List (List ℕ)) (content : List ℕ → Option (List ℕ)) (before now : ℕ) where
+  -- an answer of this text and exit
+  as_is : (text wanted : List ℕ) (exit by : Exit) → text ≡ wanted → exit ≡ by → IsAnswer words content before now wanted by → IsAnswer words content before now text exit
+  as_is text wanted exit by same_text same_exit is =
+      subst (λ (t : List ℕ). IsAnswer words content before now t exit) (sym same_text) (subst (λ (k : Exit). IsAnswer words content before now wanted k) (sym same_exit) is)
+
+  pub formless : (text : List ℕ) → None ≡ form_of words → text ≡ usage_text → IsAnswer words content before now text exits.Usage
+  formless text none is = as_is text usage_text exits.Usage exits.Usage is refl (usage (sym none))
+
+  module _ (form : Form) (asked : Some form ≡ form_of words) where
+    pub too_many : {E : Type 0} (r : Result Answer E) → limit_of Files < length (dex_names form) → IfOk r (λ a. IsOver Files a.text.items a.exit) → IfOk r (λ a. IsAnswer words content before now a.text.items a.exit)
+    too_many (Ok a) many over = as_is _ _ _ _ over.1 over.0 (many_files form (sym asked) many)
+    too_many (Err e) many over = tt
+
+    module _ (few : length (dex_names form) ≤ limit_of Files) (files : List FileName) (same : files ≡ files_of form) where
+      named : (i : ℕ) (file other : FileName) → slice_get files i ≡ Some file → other ≡ get_or files i other → other ≡ file
+      named i file other there is = is ∙ get_or_from_slice_get files i file other there
+
+      of_form : (i : ℕ) (file : FileName) → slice_get files i ≡ Some file → slice_get (files_of form) i ≡ Some file
+      of_form i file there = subst (λ (fs : List FileName). slice_get fs i ≡ Some file) same there
+
+      taken_of : (i : ℕ) (all : List (List ℕ)) → AreTakenTo content files i all → AreTakenTo content (files_of form) i all
+      taken_of i all taken = subst (λ (fs : List FileName). AreTakenTo content fs i all) same taken
+
+      pub stopped_failed : (i : ℕ) (other : FileName) (text : List ℕ) → StopsAt content files i (λ file. Rose before now) → other ≡ get_or files i other → text ≡ cannot_read_text other.name
+          → IsAnswer words content before now text exits.ReadFault
+      stopped_failed i other text stops is wrote =
+          as_is text (cannot_read_text stops.file.name) exits.ReadFault exits.ReadFault (wrote ∙ ap (λ (f : FileName). cannot_read_text f.name) (named i stops.file other stops.there is)) refl
+          (unread form i stops.file stops.all (sym asked) few (of_form i stops.file stops.there) (taken_of i stops.all stops.taken) stops.why)
+
+      pub stopped_long : {E : Type 0} (i : ℕ) (other : FileName) (r : Result Answer E) → StopsAt content files i (IsTooLong content) → other ≡ get_or files i other
+          → IfOk r (λ a. IsOver other.limit a.text.items a.exit) → IfOk r (λ a. IsAnswer words content before now a.text.items a.exit)
+      stopped_long i other (Ok a) stops is over =
+          let o = subst (λ (f : FileName). IsOver f.limit a.text.items a.exit) (named i stops.file other stops.there is) over in
+          as_is _ _ _ _ o.1 o.0 (too_long form i stops.file stops.all (sym asked) few (of_form i stops.file stops.there) (taken_of i stops.all stops.taken) stops.why)
+      stopped_long i other (Err e) stops is over = tt
+
+      pub all_read : {E : Type 0} (all : List (List ℕ)) (r : Result Answer E) → AreTakenTo content files (length files) all → IfOk r (λ a. FormHasOutcome form all a.text.items a.exit)
+          → IfOk r (λ a. IsAnswer words content before now a.text.items a.exit)
+      all_read all (Ok a) taken outcome =
+          read form all outcome.0 a.text.items a.exit (sym asked) few (subst (λ (fs : List FileName). AreTakenTo content fs (length fs) all) same taken) outcome.1 outcome.2
+      all_read all (Err e) taken outcome = tt

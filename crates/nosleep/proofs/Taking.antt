@@ -1,0 +1,55 @@
+-- Files whose bytes were taken, one by one, and those whose bytes are told.
+use Rattle.std.proofs.Common.{◌≡◌, ℕ, ◌<◌, ◌+◌, List, [], ◌∷◌, ◌++◌, length, Option, Some, ⊎_elim, sym, ap, subst, refl, ◌∙◌, arith, length-append, slice_get, get_or}
+use Rattle.std.proofs.lemmas.Option.{slice_get-get_or, slice_get_within}
+use Rattle.ns_base.specs.Outside.{Rose}
+use Rattle.nosleep.specs.Answer.{AreTakenTo, AreTold, IsTaken}
+use Rattle.nosleep.specs.Reading.{HasEnding, KeepsShelf}
+use Rattle.nosleep.specs.Taking.{IsTooLong, StopsAt}
+use Rattle.nosleep.specs.declared.reading.Ending.TheVariants.{Whole, TooLong, Fault}
+use Rattle.nosleep.specs.Words.{FileName, Form, files_of}
+use Rattle.nosleep.proofs.Places.{pushed, same_places}
+
+same_some : {X : Type 0} (x y : X) → Some x ≡ Some y → x ≡ y
+same_some x y e = cc
+
+-- none is taken yet
+pub none_taken : (content : List ℕ → Option (List ℕ)) (files : List FileName) → AreTakenTo content files 0 []
+none_taken content files = record { len = refl; each = λ i file bytes there none. cc }
+
+-- one more is
+pub one_more_taken : (content : List ℕ → Option (List ℕ)) (files : List FileName) (n : ℕ) (all : List (List ℕ)) (file : FileName) (bytes : List ℕ)
+    → AreTakenTo content files n all → slice_get files n ≡ Some file → IsTaken content file bytes → AreTakenTo content files (n + 1) (all ++ bytes ∷ [])
+one_more_taken content files n all file bytes are there is = record {
+  len = omega (arith, length-append all (bytes ∷ []), are.len);
+  each = λ i other bs at has. ⊎_elim (λ old. are.each i other bs at old)
+      (λ new. let same : other ≡ file = same_some other file (sym at ∙ ap (λ k. slice_get files k) (new.0 ∙ are.len) ∙ there) in
+        subst (λ f. IsTaken content f bs) (sym same) (subst (λ b. IsTaken content file b) (sym new.1) is)) (pushed all bytes i bs has);
+}
+
+-- told bytes are the ones that were taken
+pub told_taken : (content : List ℕ → Option (List ℕ)) (form : Form) (all told : List (List ℕ)) → AreTakenTo content (files_of form) (length (files_of form)) all → AreTold content form told → all ≡ told
+told_taken content form all told are tells = same_places all told (are.len ∙ sym tells.len)
+    (λ i x y ex ey. by_file i x y ex ey (files_of form) refl)
+  where
+  by_file : (i : ℕ) (x y : List ℕ) → slice_get all i ≡ Some x → slice_get told i ≡ Some y → (files : List FileName) → files ≡ files_of form → x ≡ y
+  by_file i x y ex ey [] same = absurd (omega (arith, slice_get_within all i x ex, are.len, ap length same))
+  by_file i x y ex ey (file ∷ files) same =
+      let at = slice_get-get_or (files_of form) i file (omega (arith, slice_get_within all i x ex, are.len)) in
+      (are.each i (get_or (files_of form) i file) x at ex).told y ((tells.each i (get_or (files_of form) i file) y at ey).0)
+
+-- one reading after another
+pub keeps_next : {F : Type 0} (content : F → List ℕ → Option (List ℕ)) (faults : F → ℕ) (old between new : F) → KeepsShelf content faults old between → KeepsShelf content faults between new
+    → KeepsShelf content faults old new
+keeps_next content faults old between new first next = record { same = λ n. next.same n ∙ first.same n; later = omega (arith, first.later, next.later) }
+
+-- a file whose reading stops
+module _ {F : Type 0} (content : F → List ℕ → Option (List ℕ)) (faults : F → ℕ) (old between new : F) (files : List FileName) (i : ℕ) (all : List (List ℕ)) (file : FileName)
+    (keeps : KeepsShelf content faults old between) (taken : AreTakenTo (content old) files i all) (there : slice_get files i ≡ Some file) where
+  pub stops_long : HasEnding file.limit (content between file.name) [] (faults between) (faults new) TooLong → StopsAt (content old) files i (IsTooLong (content old))
+  stops_long long = record { file = file; there = there; all = all; taken = taken; why = λ bs told. long bs (keeps.same file.name ∙ told) }
+
+  pub stops_failed : Rose (faults between) (faults new) → StopsAt (content old) files i (λ f. Rose (faults old) (faults new))
+  stops_failed rose = record { file = file; there = there; all = all; taken = taken; why = omega (arith, keeps.later, rose) }
+
+  pub takes_on : (bytes : List ℕ) → HasEnding file.limit (content between file.name) bytes (faults between) (faults new) Whole → AreTakenTo (content old) files (i + 1) (all ++ bytes ∷ [])
+  takes_on bytes whole = one_more_taken (content old) files i all file bytes taken there (record { told = λ bs told. whole.0 bs (keeps.same file.name ∙ told); limit = whole.1 })

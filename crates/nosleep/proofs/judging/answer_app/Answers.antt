@@ -1,0 +1,15 @@
+use Rattle.std.proofs.Common.{rules, ◌≡◌, ◌∙◌, refl, Ok}
+use Rattle.component_list.specs.Binding.{bound_of}
+use Rattle.nosleep.specs.Files.{unbound}
+use Rattle.nosleep.proofs.Judgements.{list_outcome}
+use Rattle.nosleep.proofs.judging.answer_app.Goals as goal
+
+pub returns-in-Ok-bind_list : goal.returns-in-Ok-bind_list
+returns-in-Ok-bind_list c = λ files is.
+    let bound : bound_of c.args.app.now c.args.listed.now ≡ Ok c.deref.result.now = search rules in
+    c.judge_list.ensures c.args.listed.now files is bound
+
+pub returns : goal.returns
+returns c = λ files is.
+    list_outcome (Ok c.args.listed.now) files (bound_of c.args.app.now c.args.listed.now) c.in-Err-bind_list.fault c.refuse_list.result c.in-Err-bind_list.ensures.exact
+    (λ e. unbound c.args.listed.now c.args.app.now c.in-Err-bind_list.fault refl is e) c.refuse_list.ensures

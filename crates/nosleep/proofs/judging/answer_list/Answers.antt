@@ -1,0 +1,10 @@
+use Rattle.std.proofs.Common.{rules, ◌≡◌, refl, map, Ok, Err}
+use Rattle.component_list.specs.Reading.{listed_of}
+use Rattle.nosleep.specs.Files.{bad_list}
+use Rattle.nosleep.proofs.Judgements.{list_outcome}
+use Rattle.nosleep.proofs.judging.answer_list.Goals as goal
+
+pub returns-in-Err : goal.returns-in-Err
+returns-in-Err c =
+    list_outcome (listed_of c.args.list.now) (map (λ v. v.items) c.args.files.now) (listed_of c.args.list.now) c.in-Err.fault c.refuse_list.result c.in-Err.ensures.exact
+    (λ e. bad_list c.in-Err.fault e) c.refuse_list.ensures

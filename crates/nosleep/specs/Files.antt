@@ -1,0 +1,68 @@
+-- What a component list and DEX files come to: a subject that is judged, or the first refusal.
+use Rattle.std.specs.Prelude.{ℕ, ◌≡◌, ◌≢◌, ◌<◌, List, [], ◌∷◌, length, Option, Some, None, Result, Ok, Err, slice_get}
+use Rattle.app_model.specs.Components.{ComponentParts}
+use Rattle.app_model.specs.Parts.{AppParts}
+use Rattle.app_model.specs.Subject.{SubjectParts}
+use Rattle.app_link.specs.Linking.{IsLinked}
+use Rattle.app_link.specs.declared.link_fault.LinkFault.{LinkFault}
+use Rattle.app_link.specs.declared.link_fault.LinkFault.TheVariants as link
+use Rattle.component_list.specs.Binding.{bound_of}
+use Rattle.component_list.specs.Listed.{ListedParts}
+use Rattle.component_list.specs.declared.fault.ListFault.{ListFault}
+use Rattle.dex_file.specs.Content.{FileContent, class_text}
+use Rattle.dex_file.specs.Exact.{IsFault}
+use Rattle.dex_file.specs.Reading.{content_of}
+use Rattle.dex_file.specs.declared.fault.FileFault.{FileFault}
+use Rattle.straight_code.specs.Path.{path_subject}
+use Rattle.nosleep.specs.Judged.{IsJudged}
+use Rattle.nosleep.specs.Refusals.{Refusal, InList, InFile, InLink, NotBuilt}
+
+-- file number i comes to this
+pub record Reads (files : List (List ℕ)) (i : ℕ) (result : Result FileContent FileFault) : Type 0 where
+  pub bytes : List ℕ
+  pub there : slice_get files i ≡ Some bytes
+  pub read : content_of bytes ≡ result
+
+abbrev pub AreReadTo : List (List ℕ) → ℕ → List FileContent → Type 0
+AreReadTo files n contents = (length contents ≡ n) × ((i : ℕ) (content : FileContent) → slice_get contents i ≡ Some content → Reads files i (Ok content))
+
+-- the contents of the files
+abbrev pub AreContents : List (List ℕ) → List FileContent → Type 0
+AreContents files contents = AreReadTo files (length files) contents
+
+-- file number i has this first fault, or memory ran out there; those before it are read
+pub record FailsAt (files : List (List ℕ)) (i : ℕ) (fault : FileFault) : Type 0 where
+  pub bytes : List ℕ
+  pub there : slice_get files i ≡ Some bytes
+  pub before : List FileContent
+  pub read : AreReadTo files i before
+  pub fails : IsFault fault (content_of bytes)
+
+-- the class that a fault of linking names, from the file that the fault names
+abbrev pub class_in : Option FileContent → (row : ℕ) → List ℕ
+class_in None row = []
+class_in (Some content) row = class_text content row
+
+abbrev pub named_by : List FileContent → LinkFault → List ℕ
+named_by contents (link.DuplicateClass file row earlier) = class_in (slice_get contents file) row
+named_by contents fault = []
+
+-- the application of the files
+pub record IsApplication (files : List (List ℕ)) (app : AppParts) : Type 0 where
+  pub contents : List FileContent
+  pub read : AreContents files contents
+  pub linked : IsLinked contents (Ok app)
+
+-- each step is taken where those before it are
+pub data ComesTo (listed : Result (List ListedParts) ListFault) (files : List (List ℕ)) : Result SubjectParts Refusal → Type 0 where
+  bad_list : (fault : ListFault) → listed ≡ Err fault → ComesTo listed files (Err (InList fault))
+  bad_file : (rows : List ListedParts) (i : ℕ) (fault : FileFault) → listed ≡ Ok rows → FailsAt files i fault
+      → ComesTo listed files (Err (InFile i fault))
+  bad_link : (rows : List ListedParts) (contents : List FileContent) (fault : LinkFault) → listed ≡ Ok rows → AreContents files contents → IsLinked contents (Err fault)
+      → ComesTo listed files (Err (InLink (named_by contents fault) fault))
+  unbound : (rows : List ListedParts) (app : AppParts) (fault : ListFault) → listed ≡ Ok rows → IsApplication files app → bound_of app rows ≡ Err fault
+      → ComesTo listed files (Err (InList fault))
+  not_built : (rows : List ListedParts) (app : AppParts) (list : List ComponentParts) → listed ≡ Ok rows → IsApplication files app → bound_of app rows ≡ Ok list → ¬ IsJudged list app
+      → ComesTo listed files (Err NotBuilt)
+  judged : (rows : List ListedParts) (app : AppParts) (list : List ComponentParts) → listed ≡ Ok rows → IsApplication files app → bound_of app rows ≡ Ok list → IsJudged list app
+      → (path_subject app).list ≡ list → ComesTo listed files (Ok (path_subject app))

@@ -1,0 +1,44 @@
+-- What the steps from bytes to an answer come to.
+use Rattle.std.specs.Prelude.{ℕ, ◌≡◌, ◌≢◌, List, [], ◌∷◌, map, length, Ok, Result}
+use Rattle.ns_base.specs.declared.answers.Exit.{Exit}
+use Rattle.ns_base.specs.declared.answers.Exit.TheVariants as exits
+use Rattle.app_model.specs.Components.{ComponentParts}
+use Rattle.app_model.specs.Parts.{AppParts}
+use Rattle.app_model.specs.Subject.{SubjectParts}
+use Rattle.component_list.specs.Listed.{ListedParts}
+use Rattle.component_list.specs.declared.fault.ListFault.{ListFault}
+use Rattle.app_link.specs.Linking.{AreShort}
+use Rattle.dex_file.specs.Exact.{IsFault}
+use Rattle.dex_file.specs.Reading.{content_of}
+use Rattle.flow_model.specs.declared.policy.Violation.{Violation}
+use Rattle.report_text.specs.Heads.{heads_text}
+use Rattle.report_text.specs.Texts.{accept_text}
+use Rattle.nosleep.specs.Answer.{BytesComeTo, IsOutcome}
+use Rattle.nosleep.specs.Files.{AreContents, AreReadTo, ComesTo, FailsAt}
+use Rattle.nosleep.specs.Refusals.{Refusal}
+use Rattle.nosleep.specs.Words.{Form}
+use Rattle.nosleep.specs.declared.contents.Contents.{Contents}
+use Rattle.nosleep.specs.declared.contents.Contents.TheVariants.{Read, Bad}
+
+-- a list and files come to something, which has this text and exit
+abbrev pub HasOutcome : Result (List ListedParts) ListFault → List (List ℕ) → List ℕ → Exit → Type 0
+HasOutcome listed files text exit = (result : Result SubjectParts Refusal) × ComesTo listed files result × IsOutcome result text exit
+
+-- and the files of a form
+abbrev pub FormHasOutcome : Form → List (List ℕ) → List ℕ → Exit → Type 0
+FormHasOutcome form files text exit = (result : Result SubjectParts Refusal) × BytesComeTo form files result × IsOutcome result text exit
+
+abbrev pub HasContents : List (List ℕ) → Contents → Type 0
+HasContents files (Read parts) = AreContents files parts.items
+HasContents files (Bad i fault) = FailsAt files i fault
+
+-- they can be linked
+abbrev pub CanBeLinked : Contents → Type 0
+CanBeLinked (Read parts) = AreShort parts.items
+CanBeLinked (Bad i fault) = Unit {0}
+
+-- the answer to the violations of an application
+abbrev pub IsTold : AppParts → List ComponentParts → List Violation → List ℕ → Exit → Type 0
+IsTold app list violations text exits.Accept = (text ≡ accept_text) × (violations ≡ [])
+IsTold app list violations text exits.Reports = (violations ≢ []) × (text ≡ heads_text app list violations)
+IsTold app list violations text _ = ⊥
