@@ -5,8 +5,7 @@ use Rattle.std.proofs.lemmas.List.{length-map}
 use Rattle.std.proofs.lemmas.Option.{get_or_from_slice_get, slice_get-get_or, slice_get-map}
 use Rattle.ns_base.specs.Answers.{limit_of}
 use Rattle.ns_base.specs.Outside.{Rose}
-use Rattle.ns_base.specs.declared.answers.Counted.{Counted}
-use Rattle.ns_base.specs.declared.answers.Counted.TheVariants.{Files, FileBytes, ListBytes}
+use Rattle.ns_base.specs.declared.answers.Counted.TheVariants.{Files}
 use Rattle.ns_base.specs.declared.answers.Exit.{Exit}
 use Rattle.ns_base.specs.declared.answers.Exit.TheVariants as exits
 use Rattle.report_text.specs.Texts.{cannot_read_text, usage_text}

@@ -1,11 +1,11 @@
 -- Files whose bytes were taken, one by one, and those whose bytes are told.
-use Rattle.std.proofs.Common.{◌≡◌, ℕ, ◌<◌, ◌+◌, List, [], ◌∷◌, ◌++◌, length, Option, Some, ⊎_elim, sym, ap, subst, refl, ◌∙◌, arith, length-append, slice_get, get_or}
+use Rattle.std.proofs.Common.{◌≡◌, ℕ, ◌+◌, List, [], ◌∷◌, ◌++◌, length, Option, Some, ⊎_elim, sym, ap, subst, refl, ◌∙◌, arith, length-append, slice_get, get_or}
 use Rattle.std.proofs.lemmas.Option.{slice_get-get_or, slice_get_within}
 use Rattle.ns_base.specs.Outside.{Rose}
 use Rattle.nosleep.specs.Answer.{AreTakenTo, AreTold, IsTaken}
 use Rattle.nosleep.specs.Reading.{HasEnding, KeepsShelf}
 use Rattle.nosleep.specs.Taking.{IsTooLong, StopsAt}
-use Rattle.nosleep.specs.declared.reading.Ending.TheVariants.{Whole, TooLong, Fault}
+use Rattle.nosleep.specs.declared.reading.Ending.TheVariants.{Whole, TooLong}
 use Rattle.nosleep.specs.Words.{FileName, Form, files_of}
 use Rattle.nosleep.proofs.Places.{pushed, same_places}
 
