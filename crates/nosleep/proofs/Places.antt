@@ -16,4 +16,4 @@ pushed xs x i y e =
     let here = get_or_from_slice_get (xs ++ x ∷ []) i y y e in
     ⊎_elim (λ lt. inl (slice_get-get_or xs i y lt ∙ ap Some (sym (get_or_append_left xs (x ∷ []) y i lt) ∙ here)))
     (λ ge. let at : i ≡ length xs = omega (arith, length-append xs (x ∷ []), slice_get_within (xs ++ x ∷ []) i y e) in
-      inr (at, sym here ∙ ap (λ k. get_or (xs ++ x ∷ []) k y) at ∙ get_or-append_seam xs x [] y)) (cases_lt i (length xs))
+    inr (at, sym here ∙ ap (λ k. get_or (xs ++ x ∷ []) k y) at ∙ get_or-append_seam xs x [] y)) (cases_lt i (length xs))
