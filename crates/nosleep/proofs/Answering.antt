@@ -1,17 +1,16 @@
 -- From what came of reading the files of a form to the answer.
-use Rattle.std.proofs.Common.{◌≡◌, ◌<◌, ◌≤◌, ℕ, zero, suc, List, [], ◌∷◌, length, map, vec_len, Vec, Global, Option, Some, None, option_map, Result, Ok, Err, IfOk, slice_get, get_or, sym, ap, subst, refl, ◌∙◌, arith}
-use Rattle.std.specs.List.{All}
+use Rattle.std.proofs.Common.{◌≡◌, ◌<◌, ◌≤◌, ℕ, zero, suc, List, [], ◌∷◌, length, map, Vec, Global, Option, Some, None, option_map, Result, Ok, Err, IfOk, slice_get, get_or, sym, ap, subst, refl, ◌∙◌, arith}
 use Rattle.std.proofs.lemmas.List.{length-map}
 use Rattle.std.proofs.lemmas.Option.{get_or_from_slice_get, slice_get-get_or, slice_get-map}
 use Rattle.ns_base.specs.Answers.{limit_of}
 use Rattle.ns_base.specs.Outside.{Rose}
-use Rattle.ns_base.specs.declared.answers.Counted.{Counted}
-use Rattle.ns_base.specs.declared.answers.Counted.TheVariants.{Files, FileBytes, ListBytes}
+use Rattle.ns_base.specs.declared.answers.Counted.TheVariants.{Files}
 use Rattle.ns_base.specs.declared.answers.Exit.{Exit}
 use Rattle.ns_base.specs.declared.answers.Exit.TheVariants as exits
 use Rattle.report_text.specs.Texts.{cannot_read_text, usage_text}
 use Rattle.nosleep.specs.declared.refusing.Answer.{Answer}
 use Rattle.nosleep.specs.Answer.{AreTakenTo, IsAnswer, many_files, read, too_long, unread, usage}
+use Rattle.nosleep.specs.Files.{AreSmall}
 use Rattle.nosleep.specs.Outcome.{FormHasOutcome}
 use Rattle.nosleep.specs.Refusals.{IsOver}
 use Rattle.nosleep.specs.Taking.{IsTooLong, StopsAt}
@@ -29,7 +28,7 @@ small_limits (Verify list files) (suc k) d lt = in_files files k (omega (arith, 
   in_files (name ∷ names) (suc i) less = in_files names i (omega (arith, less))
 
 pub short_taken : (content : List ℕ → Option (List ℕ)) (form : Form) (files : List FileName) (all : List (Vec ℕ Global)) → files ≡ files_of form
-    → AreTakenTo content files (length files) (map (λ v. v.items) all) → All (λ v. vec_len v ≤ 33554432) all
+    → AreTakenTo content files (length files) (map (λ v. v.items) all) → AreSmall all
 short_taken content form files all same taken k d lt =
     let len = length-map all (λ (v : Vec ℕ Global). v.items) in
     let within : k < length files = omega (arith, lt, len, taken.len) in

@@ -1,5 +1,5 @@
 -- From what the steps give to the answer, and from the answer to why it comes.
-use Rattle.std.proofs.Common.{◌≡◌, ◌==◌, ◌&&◌, ℕ, ◌<◌, ◌≤◌, Bool, true, false, List, [], ◌∷◌, length, Option, Some, None, Result, Ok, Err, IfOk, ◌⊎◌, inl, inr, refl, ◌∙◌, ap, sym, subst, arith, slice_get, get_or}
+use Rattle.std.proofs.Common.{◌≡◌, ◌==◌, ◌&&◌, ℕ, ◌<◌, Bool, true, false, List, [], ◌∷◌, length, Option, Some, None, Result, Ok, Err, IfOk, ◌⊎◌, inl, inr, refl, ◌∙◌, ap, sym, subst, arith, slice_get, get_or}
 use Rattle.std.proofs.lemmas.Bool.{false≢true}
 use Rattle.std.proofs.lemmas.Option.{slice_get-get_or, slice_get_within}
 use Rattle.ns_base.specs.Answers.{limit_of}
@@ -185,9 +185,9 @@ same_app : (files : List (List ℕ)) (app other : AppParts) → IsApplication fi
 same_app files app other p q =
     let same = contents_once files q.contents p.contents q.read p.read in
     by_case (linked_once p.contents app (Ok other) p.linked (subst (λ (c : List FileContent). IsLinked c (Ok other)) same q.linked)) where
-  by_case : (◌≡◌ {A = Result AppParts LinkFault} (Ok other) (Ok app)) ⊎ (◌≡◌ {A = Result AppParts LinkFault} (Ok other) (Err link.Memory)) → other ≡ app
-  by_case (inl e) = cc
-  by_case (inr e) = cc
+      by_case : (◌≡◌ {A = Result AppParts LinkFault} (Ok other) (Ok app)) ⊎ (◌≡◌ {A = Result AppParts LinkFault} (Ok other) (Err link.Memory)) → other ≡ app
+      by_case (inl e) = cc
+      by_case (inr e) = cc
 
 module _ (listed : Result (List ListedParts) ListFault) (files : List (List ℕ)) (rows : List ListedParts) (app : AppParts) (list : List ComponentParts)
     (l : listed ≡ Ok rows) (is : IsApplication files app) (bound : bound_of app rows ≡ Ok list) (j : IsJudged list app) where

@@ -1,5 +1,5 @@
 -- Lists by their places.
-use Rattle.std.proofs.Common.{◌≡◌, ℕ, ◌<◌, ◌+◌, List, [], ◌∷◌, ◌++◌, length, Option, Some, ◌⊎◌, inl, inr, ⊎_elim, sym, ap, ◌∙◌, arith, length-append, slice_get, get_or}
+use Rattle.std.proofs.Common.{◌≡◌, ℕ, List, [], ◌∷◌, ◌++◌, length, Some, ◌⊎◌, inl, inr, ⊎_elim, sym, ap, ◌∙◌, arith, length-append, slice_get, get_or}
 use Rattle.std.proofs.lemmas.Bool.{cases_lt}
 use Rattle.std.proofs.lemmas.List.{same_lists, get_or_append_left}
 use Rattle.std.proofs.lemmas.Option.{get_or_from_slice_get, slice_get-get_or, slice_get_within}
@@ -16,4 +16,4 @@ pushed xs x i y e =
     let here = get_or_from_slice_get (xs ++ x ∷ []) i y y e in
     ⊎_elim (λ lt. inl (slice_get-get_or xs i y lt ∙ ap Some (sym (get_or_append_left xs (x ∷ []) y i lt) ∙ here)))
     (λ ge. let at : i ≡ length xs = omega (arith, length-append xs (x ∷ []), slice_get_within (xs ++ x ∷ []) i y e) in
-      inr (at, sym here ∙ ap (λ k. get_or (xs ++ x ∷ []) k y) at ∙ get_or-append_seam xs x [] y)) (cases_lt i (length xs))
+    inr (at, sym here ∙ ap (λ k. get_or (xs ++ x ∷ []) k y) at ∙ get_or-append_seam xs x [] y)) (cases_lt i (length xs))

@@ -1,5 +1,5 @@
 -- Files whose contents are read, one by one.
-use Rattle.std.proofs.Common.{◌≡◌, ℕ, ◌<◌, ◌+◌, List, [], ◌∷◌, ◌++◌, length, Option, Some, None, Result, Ok, Err, ⊎_elim, refl, sym, ap, subst, ◌∙◌, arith, length-append, slice_get, get_or}
+use Rattle.std.proofs.Common.{◌≡◌, ℕ, ◌<◌, ◌+◌, List, [], ◌∷◌, ◌++◌, length, Option, Some, None, Result, Ok, ⊎_elim, refl, sym, ap, subst, ◌∙◌, arith, length-append, slice_get, get_or}
 use Rattle.std.proofs.lemmas.Option.{slice_get-get_or, slice_get_past, slice_get_within}
 use Rattle.std.proofs.lemmas.Bool.{cases_lt}
 use Rattle.dex_file.specs.Content.{FileContent, class_text}
@@ -21,9 +21,11 @@ none_read files = (refl, λ i content there. cc)
 -- one more is
 pub one_more_read : (files : List (List ℕ)) (n : ℕ) (contents : List FileContent) (content : FileContent) → AreReadTo files n contents → Reads files n (Ok content)
     → AreReadTo files (n + 1) (contents ++ content ∷ [])
-one_more_read files n contents content are is = (omega (arith, length-append contents (content ∷ []), are.0),
-    λ i other has. ⊎_elim (λ old. are.1 i other old)
-      (λ new. subst (λ k. Reads files k (Ok other)) (sym (new.0 ∙ are.0)) (subst (λ c. Reads files n (Ok c)) (sym new.1) is)) (pushed contents content i other has))
+one_more_read files n contents content are is = (
+  omega (arith, length-append contents (content ∷ []), are.0),
+  λ i other has. ⊎_elim (λ old. are.1 i other old)
+      (λ new. subst (λ k. Reads files k (Ok other)) (sym (new.0 ∙ are.0)) (subst (λ c. Reads files n (Ok c)) (sym new.1) is)) (pushed contents content i other has),
+)
 
 -- a file comes to one thing
 pub read_once : (files : List (List ℕ)) (i : ℕ) (r s : Result FileContent FileFault) → Reads files i r → Reads files i s → r ≡ s
@@ -40,12 +42,12 @@ has_content (file ∷ files) contents i bytes are there =
     let lt = slice_get_within (file ∷ files) i bytes there in
     has_nonempty (file ∷ files) contents i bytes are there (omega (arith, lt, are.0))
   where
-  has_nonempty : (files : List (List ℕ)) (contents : List FileContent) (i : ℕ) (bytes : List ℕ) → AreContents files contents → slice_get files i ≡ Some bytes → i < length contents
-      → (content : FileContent) × (content_of bytes ≡ Ok content)
-  has_nonempty files [] i bytes are there lt = absurd (omega (arith, lt))
-  has_nonempty files (c ∷ cs) i bytes are there lt =
-      let r = are.1 i (get_or (c ∷ cs) i c) (slice_get-get_or (c ∷ cs) i c lt) in
-      (_, ap content_of (same_some bytes r.bytes (sym there ∙ r.there)) ∙ r.read)
+    has_nonempty : (files : List (List ℕ)) (contents : List FileContent) (i : ℕ) (bytes : List ℕ) → AreContents files contents → slice_get files i ≡ Some bytes → i < length contents
+        → (content : FileContent) × (content_of bytes ≡ Ok content)
+    has_nonempty files [] i bytes are there lt = absurd (omega (arith, lt))
+    has_nonempty files (c ∷ cs) i bytes are there lt =
+        let r = are.1 i (get_or (c ∷ cs) i c) (slice_get-get_or (c ∷ cs) i c lt) in
+        (_, ap content_of (same_some bytes r.bytes (sym there ∙ r.there)) ∙ r.read)
 
 -- the class that is named in a file that is there, and in one that is not
 pub class_there : (files : List (List ℕ)) (contents : List FileContent) (i : ℕ) (bytes : List ℕ) (row : ℕ) (name : List ℕ) → AreContents files contents → slice_get files i ≡ Some bytes
@@ -61,4 +63,4 @@ class_there files contents i bytes row name are there is =
 pub class_absent : (files : List (List ℕ)) (contents : List FileContent) (i row : ℕ) → AreContents files contents → slice_get files i ≡ None → [] ≡ class_in (slice_get contents i) row
 class_absent files contents i row are none =
     ⊎_elim (λ lt. let at = slice_get-get_or files i [] lt in absurd (let no : ⊥ = cc in no))
-      (λ ge. sym (ap (λ (o : Option FileContent). class_in o row) (slice_get_past contents i (omega (arith, ge, are.0))))) (cases_lt i (length files))
+    (λ ge. sym (ap (λ (o : Option FileContent). class_in o row) (slice_get_past contents i (omega (arith, ge, are.0))))) (cases_lt i (length files))

@@ -1,11 +1,11 @@
 -- Files whose bytes were taken, one by one, and those whose bytes are told.
-use Rattle.std.proofs.Common.{◌≡◌, ℕ, ◌<◌, ◌+◌, List, [], ◌∷◌, ◌++◌, length, Option, Some, ⊎_elim, sym, ap, subst, refl, ◌∙◌, arith, length-append, slice_get, get_or}
+use Rattle.std.proofs.Common.{◌≡◌, ℕ, ◌+◌, List, [], ◌∷◌, ◌++◌, length, Option, Some, ⊎_elim, sym, ap, subst, refl, ◌∙◌, arith, length-append, slice_get, get_or}
 use Rattle.std.proofs.lemmas.Option.{slice_get-get_or, slice_get_within}
 use Rattle.ns_base.specs.Outside.{Rose}
 use Rattle.nosleep.specs.Answer.{AreTakenTo, AreTold, IsTaken}
 use Rattle.nosleep.specs.Reading.{HasEnding, KeepsShelf}
 use Rattle.nosleep.specs.Taking.{IsTooLong, StopsAt}
-use Rattle.nosleep.specs.declared.reading.Ending.TheVariants.{Whole, TooLong, Fault}
+use Rattle.nosleep.specs.declared.reading.Ending.TheVariants.{Whole, TooLong}
 use Rattle.nosleep.specs.Words.{FileName, Form, files_of}
 use Rattle.nosleep.proofs.Places.{pushed, same_places}
 
@@ -23,7 +23,7 @@ one_more_taken content files n all file bytes are there is = record {
   len = omega (arith, length-append all (bytes ∷ []), are.len);
   each = λ i other bs at has. ⊎_elim (λ old. are.each i other bs at old)
       (λ new. let same : other ≡ file = same_some other file (sym at ∙ ap (λ k. slice_get files k) (new.0 ∙ are.len) ∙ there) in
-        subst (λ f. IsTaken content f bs) (sym same) (subst (λ b. IsTaken content file b) (sym new.1) is)) (pushed all bytes i bs has);
+      subst (λ f. IsTaken content f bs) (sym same) (subst (λ b. IsTaken content file b) (sym new.1) is)) (pushed all bytes i bs has);
 }
 
 -- told bytes are the ones that were taken
@@ -31,11 +31,11 @@ pub told_taken : (content : List ℕ → Option (List ℕ)) (form : Form) (all t
 told_taken content form all told are tells = same_places all told (are.len ∙ sym tells.len)
     (λ i x y ex ey. by_file i x y ex ey (files_of form) refl)
   where
-  by_file : (i : ℕ) (x y : List ℕ) → slice_get all i ≡ Some x → slice_get told i ≡ Some y → (files : List FileName) → files ≡ files_of form → x ≡ y
-  by_file i x y ex ey [] same = absurd (omega (arith, slice_get_within all i x ex, are.len, ap length same))
-  by_file i x y ex ey (file ∷ files) same =
-      let at = slice_get-get_or (files_of form) i file (omega (arith, slice_get_within all i x ex, are.len)) in
-      (are.each i (get_or (files_of form) i file) x at ex).told y ((tells.each i (get_or (files_of form) i file) y at ey).0)
+    by_file : (i : ℕ) (x y : List ℕ) → slice_get all i ≡ Some x → slice_get told i ≡ Some y → (files : List FileName) → files ≡ files_of form → x ≡ y
+    by_file i x y ex ey [] same = absurd (omega (arith, slice_get_within all i x ex, are.len, ap length same))
+    by_file i x y ex ey (file ∷ files) same =
+        let at = slice_get-get_or (files_of form) i file (omega (arith, slice_get_within all i x ex, are.len)) in
+        (are.each i (get_or (files_of form) i file) x at ex).told y ((tells.each i (get_or (files_of form) i file) y at ey).0)
 
 -- one reading after another
 pub keeps_next : {F : Type 0} (content : F → List ℕ → Option (List ℕ)) (faults : F → ℕ) (old between new : F) → KeepsShelf content faults old between → KeepsShelf content faults between new

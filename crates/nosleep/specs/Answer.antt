@@ -5,19 +5,14 @@ use Rattle.ns_base.specs.declared.answers.Exit.TheVariants as exits
 use Rattle.ns_base.specs.declared.answers.Counted.TheVariants.{Files}
 use Rattle.ns_base.specs.Outside.{Rose}
 use Rattle.ns_base.specs.Answers.{limit_of}
-use Rattle.app_model.specs.Components.{ComponentParts}
-use Rattle.app_model.specs.Parts.{AppParts}
 use Rattle.app_model.specs.Subject.{SubjectParts}
 use Rattle.app_model.specs.declared.component.Kind.TheVariants as kinds
-use Rattle.component_list.specs.Binding.{bound_of}
 use Rattle.component_list.specs.Listed.{ListedParts}
 use Rattle.component_list.specs.Reading.{listed_of}
-use Rattle.component_list.specs.declared.fault.ListFault.{ListFault}
-use Rattle.straight_code.specs.Path.{path_subject}
 use Rattle.report_text.specs.Limits.{over_limit_text}
 use Rattle.report_text.specs.Texts.{usage_text, cannot_read_text}
-use Rattle.nosleep.specs.Files.{ComesTo, IsApplication}
-use Rattle.nosleep.specs.Judged.{IsJudged, IsJudgement}
+use Rattle.nosleep.specs.Files.{ComesTo}
+use Rattle.nosleep.specs.Judged.{IsJudgement}
 use Rattle.nosleep.specs.Reading.{WhereTold}
 use Rattle.nosleep.specs.Refusals.{Refusal, IsRefused}
 use Rattle.nosleep.specs.Words.{FileName, Form, Receiver, Verify, dex_names, files_of, form_of}

@@ -1,5 +1,5 @@
 -- The form of words.
-use Rattle.std.specs.Prelude.{ℕ, List, [], ◌∷◌, map, string_bytes, slice_index_or}
+use Rattle.std.specs.Prelude.{map, string_bytes}
 use Rattle.nosleep.specs.Words.{Form, Receiver, Verify}
 use Rattle.nosleep.specs.declared.words.Asked.{Asked}
 use Rattle.nosleep.specs.declared.words.Asked.TheVariants as asked

@@ -1,5 +1,10 @@
 -- What a component list and DEX files come to: a subject that is judged, or the first refusal.
-use Rattle.std.specs.Prelude.{ℕ, ◌≡◌, ◌≢◌, ◌<◌, List, [], ◌∷◌, length, Option, Some, None, Result, Ok, Err, slice_get}
+use Rattle.std.specs.Prelude.{ℕ, ◌≡◌, ◌≤◌, vec_len, List, [], length, Option, Some, None, Result, Ok, Err, slice_get}
+use Rattle.std.specs.List.{All}
+use Rattle.std.specs.declared.alloc.Global.{Global}
+use Rattle.std.specs.declared.vec.Vec.{Vec}
+use Rattle.ns_base.specs.Answers.{limit_of}
+use Rattle.ns_base.specs.declared.answers.Counted.TheVariants.{FileBytes}
 use Rattle.app_model.specs.Components.{ComponentParts}
 use Rattle.app_model.specs.Parts.{AppParts}
 use Rattle.app_model.specs.Subject.{SubjectParts}
@@ -16,6 +21,10 @@ use Rattle.dex_file.specs.declared.fault.FileFault.{FileFault}
 use Rattle.straight_code.specs.Path.{path_subject}
 use Rattle.nosleep.specs.Judged.{IsJudged}
 use Rattle.nosleep.specs.Refusals.{Refusal, InList, InFile, InLink, NotBuilt}
+
+-- none has more bytes than a DEX file may have
+abbrev pub AreSmall : List (Vec ℕ Global) → Type 0
+AreSmall files = All (λ (bytes : Vec ℕ Global). vec_len bytes ≤ limit_of FileBytes) files
 
 -- file number i comes to this
 pub record Reads (files : List (List ℕ)) (i : ℕ) (result : Result FileContent FileFault) : Type 0 where

@@ -10,7 +10,6 @@ use Rattle.app_model.specs.declared.component.Kind.{Kind}
 use Rattle.app_model.specs.declared.component.Kind.TheVariants.{Activity, Service, Receiver, Runnable}
 use Rattle.flow_model.specs.declared.policy.Violation.{Violation}
 use Rattle.flow_model.specs.Policy.{AreViolations}
-use Rattle.straight_code.specs.Path.{path_subject}
 use Rattle.straight_code.specs.Receiver.{is_receiver}
 use Rattle.straight_code.specs.Verdict.{IsPlainPath, IsSafe}
 use Rattle.report_text.specs.Heads.{heads_text}

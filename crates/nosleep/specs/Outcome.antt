@@ -1,5 +1,5 @@
 -- What the steps from bytes to an answer come to.
-use Rattle.std.specs.Prelude.{ℕ, ◌≡◌, ◌≢◌, List, [], ◌∷◌, map, length, Ok, Result}
+use Rattle.std.specs.Prelude.{ℕ, ◌≡◌, ◌≢◌, List, [], Result}
 use Rattle.ns_base.specs.declared.answers.Exit.{Exit}
 use Rattle.ns_base.specs.declared.answers.Exit.TheVariants as exits
 use Rattle.app_model.specs.Components.{ComponentParts}
@@ -8,13 +8,11 @@ use Rattle.app_model.specs.Subject.{SubjectParts}
 use Rattle.component_list.specs.Listed.{ListedParts}
 use Rattle.component_list.specs.declared.fault.ListFault.{ListFault}
 use Rattle.app_link.specs.Linking.{AreShort}
-use Rattle.dex_file.specs.Exact.{IsFault}
-use Rattle.dex_file.specs.Reading.{content_of}
 use Rattle.flow_model.specs.declared.policy.Violation.{Violation}
 use Rattle.report_text.specs.Heads.{heads_text}
 use Rattle.report_text.specs.Texts.{accept_text}
 use Rattle.nosleep.specs.Answer.{BytesComeTo, IsOutcome}
-use Rattle.nosleep.specs.Files.{AreContents, AreReadTo, ComesTo, FailsAt}
+use Rattle.nosleep.specs.Files.{AreContents, ComesTo, FailsAt}
 use Rattle.nosleep.specs.Refusals.{Refusal}
 use Rattle.nosleep.specs.Words.{Form}
 use Rattle.nosleep.specs.declared.contents.Contents.{Contents}

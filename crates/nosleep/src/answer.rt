@@ -1,12 +1,12 @@
 //! The answer to the words and files, before anything is written.
-ghost use Rattle.std.specs.Prelude.{◌≡◌, ◌≢◌, ◌≤◌, ◌<◌, [], ◌∷◌, map, length, string_bytes, vec_len, IfOk};
-ghost use Rattle.std.specs.List.{All};
+ghost use Rattle.std.specs.Prelude.{◌≡◌, ◌≢◌, ◌≤◌, ◌<◌, [], ◌∷◌, map, length, string_bytes, IfOk};
 ghost use Rattle.ns_base.specs.Answers.{limit_of};
 ghost use Rattle.ns_base.specs.declared.answers.Counted.TheVariants.{Files};
 ghost use Rattle.ns_base.specs.declared.answers.Exit.TheVariants as exits;
 ghost use Rattle.component_list.specs.Listed.{IsReadList};
 ghost use Rattle.nosleep.specs.Answer.{IsAnswer, one_receiver};
 ghost use Rattle.nosleep.specs.Asked.{form_by};
+ghost use Rattle.nosleep.specs.Files.{AreSmall};
 ghost use Rattle.nosleep.specs.Outcome.{FormHasOutcome};
 ghost use Rattle.nosleep.specs.Reading.{KeepsShelf};
 ghost use Rattle.nosleep.specs.Words.{dex_names, files_of};
@@ -62,14 +62,10 @@ fn dex_count(asked: Asked<'_>) -> usize
 }
 
 /// The answer to the bytes of a form's files.
-fn answer_files(
-    alloc: Global,
-    asked: Asked<'_>,
-    files: &[Vec<u8>],
-) -> Result<Answer, AllocError>
+fn answer_files(alloc: Global, asked: Asked<'_>, files: &[Vec<u8>]) -> Result<Answer, AllocError>
     requires few { length (dex_names (form_by asked)) ≤ 16 }
     requires each { length files.now ≡ length (files_of (form_by asked)) }
-    requires short { All (λ bytes. vec_len bytes ≤ 33554432) files.now }
+    requires short { AreSmall files.now }
     ensures { IfOk result (λ a. FormHasOutcome (form_by asked.entry) (map (λ bytes. bytes.items) files.now) a.text.items a.exit) }
 {
     match asked {

@@ -1,6 +1,6 @@
 //! Reading the contents of DEX files.
-ghost use Rattle.std.specs.Prelude.{◌≤◌, length, map, vec_len, IfOk};
-ghost use Rattle.std.specs.List.{All};
+ghost use Rattle.std.specs.Prelude.{◌≤◌, length, map, IfOk};
+ghost use Rattle.nosleep.specs.Files.{AreSmall};
 ghost use Rattle.nosleep.specs.Outcome.{CanBeLinked, HasContents};
 
 use dex_file::{DexParts, FileFault, read_dex};
@@ -18,7 +18,7 @@ pub enum Contents {
 /// Reads the files in order, until one has a fault.
 pub fn read_contents(alloc: Global, files: &[Vec<u8>]) -> Result<Contents, AllocError>
     requires few { length files.now ≤ 16 }
-    requires short { All (λ bytes. vec_len bytes ≤ 33554432) files.now }
+    requires short { AreSmall files.now }
     ensures contents { IfOk result (HasContents (map (λ bytes. bytes.items) files.now)) }
     ensures linked { IfOk result CanBeLinked }
 {

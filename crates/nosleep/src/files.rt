@@ -38,10 +38,7 @@ pub enum Taken {
 }
 
 // Adds the DEX files.
-fn push_dex_names<'a>(
-    names: &mut Vec<FileName<'a>>,
-    files: &'a [String],
-) -> Result<(), AllocError>
+fn push_dex_names<'a>(names: &mut Vec<FileName<'a>>, files: &'a [String]) -> Result<(), AllocError>
     ensures { IfOk result (λ _. names.new.items ≡ names.old.items ++ map dex_file (map string_bytes files.now)) }
 {
     for i in 0..files.len() {

@@ -1,12 +1,11 @@
 //! From a component list and the bytes of DEX files to the answer.
-ghost use Rattle.std.specs.Prelude.{◌≡◌, ◌≤◌, ◌<◌, ℕ, List, [], ◌∷◌, length, map, vec_len, IfOk, IsTrue, Ok};
-ghost use Rattle.std.specs.List.{All};
+ghost use Rattle.std.specs.Prelude.{◌≡◌, ◌≤◌, ◌<◌, ℕ, List, [], ◌∷◌, length, map, IfOk, IsTrue, Ok};
 ghost use Rattle.app_model.specs.Components.{BelongsTo, ComponentParts};
 ghost use Rattle.app_link.specs.Linking.{AreShort};
 ghost use Rattle.component_list.specs.Binding.{bound_of};
 ghost use Rattle.component_list.specs.Listed.{IsReadList, ListedParts};
 ghost use Rattle.component_list.specs.Reading.{listed_of};
-ghost use Rattle.nosleep.specs.Files.{AreContents, IsApplication};
+ghost use Rattle.nosleep.specs.Files.{AreContents, AreSmall, IsApplication};
 ghost use Rattle.nosleep.specs.Judged.{is_one_receiver, is_receiver_row};
 ghost use Rattle.nosleep.specs.Outcome.{HasOutcome, IsTold};
 ghost use Rattle.straight_code.specs.Verdict.{IsSmallApp};
@@ -25,14 +24,10 @@ use std::alloc::{AllocError, Global};
 use straight_code::{is_receiver, judge};
 
 /// The answer to DEX files under the list of these bytes.
-pub fn answer_list(
-    alloc: Global,
-    list: &[u8],
-    files: &[Vec<u8>],
-) -> Result<Answer, AllocError>
+pub fn answer_list(alloc: Global, list: &[u8], files: &[Vec<u8>]) -> Result<Answer, AllocError>
     requires list { length list.now ≤ 33554432 }
     requires few { length files.now ≤ 16 }
-    requires short { All (λ bytes. vec_len bytes ≤ 33554432) files.now }
+    requires short { AreSmall files.now }
     ensures { IfOk result (λ a. HasOutcome (listed_of list.now) (map (λ bytes. bytes.items) files.now) a.text.items a.exit) }
 {
     match read_list(alloc, list) {
@@ -49,7 +44,7 @@ pub fn answer_listed(
 ) -> Result<Answer, AllocError>
     requires list { IsReadList listed.now }
     requires few { length files.now ≤ 16 }
-    requires short { All (λ bytes. vec_len bytes ≤ 33554432) files.now }
+    requires short { AreSmall files.now }
     ensures { IfOk result (λ a. HasOutcome (Ok listed.now) (map (λ bytes. bytes.items) files.now) a.text.items a.exit) }
 {
     match read_contents(alloc, files)? {
@@ -66,7 +61,7 @@ fn answer_parts(
     parts: Vec<DexParts>,
 ) -> Result<Answer, AllocError>
     requires list { IsReadList listed.now }
-    requires short { All (λ bytes. vec_len bytes ≤ 33554432) files.now }
+    requires short { AreSmall files.now }
     requires parts { AreShort parts.items }
     requires contents { AreContents (map (λ bytes. bytes.items) files.now) parts.items }
     ensures { IfOk result (λ a. HasOutcome (Ok listed.now) (map (λ bytes. bytes.items) files.now) a.text.items a.exit) }

@@ -1,9 +1,8 @@
 //! Answers, and those to what is refused.
-ghost use Rattle.std.specs.Prelude.{◌≡◌, ◌≤◌, List, map, slice_get, vec_len, IfOk};
-ghost use Rattle.std.specs.List.{All};
+ghost use Rattle.std.specs.Prelude.{◌≡◌, List, map, slice_get, IfOk};
 ghost use Rattle.ns_base.specs.declared.answers.Exit.TheVariants as exits;
 ghost use Rattle.dex_file.specs.Content.{FileContent};
-ghost use Rattle.nosleep.specs.Files.{AreContents, class_in, named_by};
+ghost use Rattle.nosleep.specs.Files.{AreContents, AreSmall, class_in, named_by};
 ghost use Rattle.nosleep.specs.Refusals.{IsOver, IsRefused, InFile, InLink, InList, NotBuilt};
 
 use app_link::LinkFault;
@@ -49,12 +48,8 @@ pub fn refuse_file(alloc: Global, number: u32, fault: FileFault) -> Result<Answe
 
 /// The answer to the first fault of linking files of these bytes. The contents went into linking, so the
 /// name of a class is read again.
-pub fn refuse_link(
-    alloc: Global,
-    files: &[Vec<u8>],
-    fault: LinkFault,
-) -> Result<Answer, AllocError>
-    requires { All (λ bytes. vec_len bytes ≤ 33554432) files.now }
+pub fn refuse_link(alloc: Global, files: &[Vec<u8>], fault: LinkFault) -> Result<Answer, AllocError>
+    requires { AreSmall files.now }
     ensures { (contents : List FileContent) → AreContents (map (λ bytes. bytes.items) files.now) contents
         → IfOk result (λ a. IsRefused (InLink (named_by contents fault) fault) a.text.items a.exit) }
 {
@@ -70,13 +65,8 @@ pub fn refuse_link(
 }
 
 // The name of a class row of one of the files.
-fn name_in(
-    alloc: Global,
-    files: &[Vec<u8>],
-    file: u32,
-    row: u32,
-) -> Result<Vec<u8>, AllocError>
-    requires { All (λ bytes. vec_len bytes ≤ 33554432) files.now }
+fn name_in(alloc: Global, files: &[Vec<u8>], file: u32, row: u32) -> Result<Vec<u8>, AllocError>
+    requires { AreSmall files.now }
     ensures { (contents : List FileContent) → AreContents (map (λ bytes. bytes.items) files.now) contents
         → IfOk result (λ name. name.items ≡ class_in (slice_get contents file) row) }
 {

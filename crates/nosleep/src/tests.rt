@@ -2,9 +2,9 @@
 use crate::adapters::{FileShelf, Output};
 use crate::top::nosleep;
 use dex_bytes::adler32;
+use lists::{BAD_LISTS, LIST, LISTS, List};
 use ns_base::{Exit, Failed, Shelf, Sink};
 use ns_memory::{MemoryShelf, MemorySink};
-use lists::{BAD_LISTS, LIST, LISTS, List};
 use rows::{ACCEPTED, JUDGED, MAKE, NOT_BUILT, OTHERS, R, REFUSED, RETURN, Row, Told, WORKS};
 use std::alloc::{AllocError, Global};
 use std::fs;
@@ -58,16 +58,19 @@ static ANSWERS: [(&[&str], Told); 15] = [
         &["verify", "l", "a", "e"],
         (Exit::Bad, "bad dex 1 Short 0\n"),
     ),
+    (&["verify", "a", "e"], (Exit::Bad, "bad list Text\n")),
     (
-        &["verify", "a", "e"],
-        (Exit::Bad, "bad list Text\n"),
+        &["verify", "l", "--x"],
+        (Exit::ReadFault, "cannot read --x\n"),
     ),
-    (&["verify", "l", "--x"], (Exit::ReadFault, "cannot read --x\n")),
     (&SEVENTEEN, (Exit::Limit, "limit Files\n")),
 ];
 
 // Seventeen DEX files, of which none is there.
-const SEVENTEEN: [&str; 19] = ["verify", "x", "x", "x", "x", "x", "x", "x", "x", "x", "x", "x", "x", "x", "x", "x", "x", "x", "x"];
+const SEVENTEEN: [&str; 19] = [
+    "verify", "x", "x", "x", "x", "x", "x", "x", "x", "x", "x", "x", "x", "x", "x", "x", "x", "x",
+    "x",
+];
 
 fn texts(alloc: Global, words: &[&str]) -> Result<Vec<String>, AllocError> {
     words
@@ -81,7 +84,10 @@ fn shelf_with(alloc: Global, list: &str, file: &[u8], fail: &[u64]) -> Result<Me
     let mut shelf = MemoryShelf::new(alloc, 300, fail.to_vec(alloc)?);
     shelf.add(String::from_str(alloc, "a")?, file.to_vec(alloc)?)?;
     shelf.add(String::from_str(alloc, "e")?, Vec::new(alloc))?;
-    shelf.add(String::from_str(alloc, "l")?, list.as_bytes().to_vec(alloc)?)?;
+    shelf.add(
+        String::from_str(alloc, "l")?,
+        list.as_bytes().to_vec(alloc)?,
+    )?;
     Ok(shelf)
 }
 

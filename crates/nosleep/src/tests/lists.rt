@@ -44,7 +44,11 @@ pub static LISTS: [List; 8] = [
 ];
 
 pub static BAD_LISTS: [List; 11] = [
-    ("an unknown key", "x = 1\n", (Exit::Bad, "bad list Key 0 x\n")),
+    (
+        "an unknown key",
+        "x = 1\n",
+        (Exit::Bad, "bad list Key 0 x\n"),
+    ),
     (
         "a key that is shown",
         "\"a b\" = 1\n",

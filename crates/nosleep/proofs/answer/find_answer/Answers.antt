@@ -1,9 +1,9 @@
-use Rattle.std.proofs.Common.{rules, ◌≡◌, ◌<◌, ◌≤◌, ◌∙◌, ap, sym, subst, map, length, string_bytes, Some, get_or, arith}
+use Rattle.std.proofs.Common.{◌≤◌, ◌∙◌, ap, sym, map, length, string_bytes, arith}
 use Rattle.std.proofs.lemmas.Option.{slice_get_within}
 use Rattle.ns_base.specs.Answers.{limit_of}
 use Rattle.ns_base.specs.declared.answers.Counted.TheVariants.{Files}
 use Rattle.nosleep.specs.Asked.{form_by}
-use Rattle.nosleep.specs.Words.{FileName, dex_names, files_of}
+use Rattle.nosleep.specs.Words.{FileName, dex_names}
 use Rattle.nosleep.proofs.Answering.{all_read, formless, short_taken, stopped_failed, stopped_long, too_many}
 use Rattle.nosleep.proofs.answer.find_answer.Goals as goal
 

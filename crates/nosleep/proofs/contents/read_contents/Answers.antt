@@ -1,4 +1,4 @@
-use Rattle.std.proofs.Common.{rules, ◌∙◌, ap, map, arith, refl, sym, subst, List, ℕ, option_map, ◌+◌, ◌≡◌, Some, slice_get}
+use Rattle.std.proofs.Common.{rules, ◌∙◌, ap, map, refl, sym, subst, List, option_map, ◌+◌, ◌≡◌, Some, slice_get}
 use Rattle.std.specs.List.{All}
 use Rattle.std.proofs.lemmas.List.Elements.{All-push}
 use Rattle.std.proofs.lemmas.Option.{slice_get-map, slice_get_read}

@@ -29,7 +29,7 @@ pub returns-in-Fault-clause-keeps : goal.returns-in-Fault-clause-keeps
 returns-in-Fault-clause-keeps g c = keeps_next _ _ _ _ _ c.loop-i.invariant.keeps c.read_whole.ensures.keeps
 
 pub loop-i-preserved : goal.loop-i-preserved
-loop-i-preserved g c = 
+loop-i-preserved g c =
     let there = slice_get_read _ _ _ _ refl c.loop-i-test.true c.index-names-i.is ∙ ap (λ (f : FileName). Some f) (sym c.file.view_is) in
     let more = takes_on _ _ _ _ c.read_whole.new.shelf _ _ _ _ c.loop-i.invariant.keeps c.loop-i.invariant.taken there c.in-Whole.bytes.items (rw c.in-Whole.is at c.in_ok-bytes.ensures.reading) in
     let made = ap (λ xs. map (λ b. b.items) xs) c.in_ok-push-in-Whole.ensures.items ∙ map-append (λ b. b.items) c.loop-i.all.items (c.in-Whole.bytes ∷ []) in

@@ -1,4 +1,4 @@
-use Rattle.std.proofs.Common.{rules, ◌≡◌, refl, map, Ok, Err}
+use Rattle.std.proofs.Common.{map}
 use Rattle.component_list.specs.Reading.{listed_of}
 use Rattle.nosleep.specs.Files.{bad_list}
 use Rattle.nosleep.proofs.Judgements.{list_outcome}

@@ -1,5 +1,5 @@
-use Rattle.std.proofs.Common.{rules, ◌≡◌, refl, map, Ok, Err}
-use Rattle.nosleep.specs.Files.{FailsAt, bad_file}
+use Rattle.std.proofs.Common.{refl, map, Ok, Err}
+use Rattle.nosleep.specs.Files.{bad_file}
 use Rattle.nosleep.specs.Refusals.{InFile}
 use Rattle.nosleep.proofs.Judgements.{has_outcome}
 use Rattle.nosleep.proofs.judging.answer_listed.Goals as goal
