@@ -10,6 +10,7 @@ use std::alloc::{AllocError, Global};
 use std::fs;
 use std::test::Fail;
 
+mod calls;
 mod hierarchy;
 mod layout;
 mod lists;
