@@ -1,5 +1,5 @@
 #!/usr/bin/env python3
-"""Checks that the stored sample is what sample_dex.py lays out, and that the tests of nosleep hold the same bytes."""
+"""Checks that the stored samples are what the independent scripts lay out, and that the tests of nosleep hold these bytes."""
 import pathlib
 import re
 import sys
@@ -7,10 +7,23 @@ import sys
 import sample_dex
 
 top = pathlib.Path(__file__).resolve().parent.parent
-stored = (top / "crates/nosleep/data/receiver.dex").read_bytes()
+sys.path.insert(0, str(top / "bench"))
+sys.dont_write_bytecode = True
+import make_hierarchy  # noqa: E402
+
 literal = (top / "crates/nosleep/src/tests/sample.rt").read_text()
-in_tests = bytes.fromhex("".join(re.findall(r'"([0-9a-f]+)"', literal)))
-for name, found in (("sample_dex.py", sample_dex.layout(*sample_dex.BODIES["worked"])), ("the tests", in_tests)):
+
+
+def in_tests(name):
+    """The bytes of a constant of the tests."""
+    block = re.search(rf"pub const {name}: .*?];", literal, re.DOTALL).group()
+    return bytes.fromhex("".join(re.findall(r'"([0-9a-f]+)"', block)))
+
+
+stored = (top / "crates/nosleep/data/receiver.dex").read_bytes()
+for name, found in (("sample_dex.py", sample_dex.layout(*sample_dex.BODIES["worked"])), ("the tests", in_tests("RECEIVER"))):
     if found != stored:
         sys.exit(f"crates/nosleep/data/receiver.dex differs from what {name} has")
-print("the stored sample is the same in all three places")
+if make_hierarchy.sample() != in_tests("CALLS"):
+    sys.exit("the tests hold another application of calls than bench/make_hierarchy.py lays out")
+print("the stored samples are the same wherever they stand")

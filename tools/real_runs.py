@@ -17,6 +17,7 @@ import sample_dex
 
 TOP = pathlib.Path(__file__).resolve().parent.parent
 LIMIT = 33_554_432
+LIST_LIMIT = 1_048_576
 SECONDS = 60
 
 HELP = b"""usage: nosleep receiver [--json] [--count] DEX CLASS
@@ -28,6 +29,7 @@ LEAK = b"""report 1 of 2: Lapp/R;->wl is C1 after Lapp/R;->onReceive
 report 2 of 2: Lapp/R;->wl is L after Lapp/R;->onReceive
 """
 R = "Lapp/R;"
+LIST = b'[[component]]\nkind = "receiver"\nclass = "Lapp/R;"\n'
 # A name that no folder takes. Its text is longer than a pipe holds, so that it cannot go in one piece.
 LONG = "\x01" * 30_000
 
@@ -38,7 +40,7 @@ RUNS = [
     ("a bad file", ["receiver", "changed.dex", R], None, 3, b"bad dex 0 Checksum\n"),
     ("no words", [], None, 4, HELP),
     ("two words", ["receiver", "works.dex"], None, 4, HELP),
-    ("another third word", ["receiver", "works.dex", "Lapp/Q;"], None, 3, b"bad dex 0 NotBuilt\n"),
+    ("another third word", ["receiver", "works.dex", "Lapp/Q;"], None, 3, b"bad list NoClass 0\n"),
     ("a fourth word", ["receiver", "works.dex", R, R], None, 4, HELP),
     ("a word that is no text", ["receiver", "works.dex", b"\xff"], None, 4, HELP),
     ("an absent file", ["receiver", "absent.dex", R], None, 5, b"cannot read absent.dex\n"),
@@ -50,6 +52,18 @@ RUNS = [
     ("a pipe", ["receiver", "/dev/stdin", R], "leaks.dex", 1, LEAK),
     ("a pipe of many pieces", ["receiver", "/dev/stdin", R], "large.dex", 3, b"bad dex 0 NotBuilt\n"),
     ("a pipe that gives too many bytes", ["receiver", "/dev/stdin", R], "more.dex", 8, b"limit FileBytes\n"),
+    ("a list", ["verify", "list.toml", "works.dex"], None, 0, b"accept\n"),
+    ("a list of a leaking receiver", ["verify", "list.toml", "leaks.dex"], None, 1, LEAK),
+    ("a list and no file", ["verify", "list.toml"], None, 4, HELP),
+    ("an empty list", ["verify", "/dev/null", "works.dex"], None, 3, b"bad dex 0 NotBuilt\n"),
+    ("a list that is none", ["verify", "works.dex", "works.dex"], None, 3, b"bad list Text\n"),
+    ("a folder as a list", ["verify", ".", "works.dex"], None, 5, b"cannot read .\n"),
+    ("a pipe as a list", ["verify", "/dev/stdin", "works.dex"], "list.toml", 0, b"accept\n"),
+    ("as long a list as there may be", ["verify", "most.toml", "works.dex"], None, 0, b"accept\n"),
+    ("a list of one byte more", ["verify", "more.toml", "works.dex"], None, 8, b"limit ListBytes\n"),
+    ("a file twice", ["verify", "list.toml", "works.dex", "works.dex"], None, 3, b"bad link DuplicateClass Lapp/R; 1 0\n"),
+    ("a second file that is absent", ["verify", "list.toml", "works.dex", "absent.dex"], None, 5, b"cannot read absent.dex\n"),
+    ("seventeen files, of which none is read", ["verify", "list.toml", *["absent.dex"] * 17], None, 8, b"limit Files\n"),
 ]
 
 
@@ -62,6 +76,9 @@ def lay_out(folder):
     for name, size in (("most", LIMIT), ("more", LIMIT + 1)):
         with open(folder / f"{name}.dex", "wb") as file:
             file.truncate(size)
+    (folder / "list.toml").write_bytes(LIST)
+    for name, size in (("most", LIST_LIMIT), ("more", LIST_LIMIT + 1)):
+        (folder / f"{name}.toml").write_bytes(LIST + b"#" * (size - len(LIST)))
     # classes, members, code with each payload, and tries, as a compiled application has them
     subprocess.run([sys.executable, TOP / "bench/generate_dex.py", folder / "large.dex"], check=True)
 
