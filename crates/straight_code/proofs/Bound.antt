@@ -100,8 +100,8 @@ module _ (app : AppParts) (sound : IsSoundApp app) where
         let p = slice_get-get_or app.protos method.proto.0 nothing in_range.proto in
         found_alone passes app.protos nothing method.proto.0 in_range.proto (here p)
         (λ k lt e. same_place app.protos nothing sound.once.protos k method.proto.0 lt in_range.proto
-          (same_proto (get_or app.protos k nothing) (get_or app.protos method.proto.0 nothing) (codes "V") (context_name ∷ intent_name ∷ [])
-            (sound.ranges.protos k nothing lt) (sound.ranges.protos method.proto.0 nothing in_range.proto) e (here p)))
+        (same_proto (get_or app.protos k nothing) (get_or app.protos method.proto.0 nothing) (codes "V") (context_name ∷ intent_name ∷ [])
+        (sound.ranges.protos k nothing lt) (sound.ranges.protos method.proto.0 nothing in_range.proto) e (here p)))
       where
         nothing : ProtoParts
         nothing = record { result = record { 0 = 0 }; params = [] }
