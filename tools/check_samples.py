@@ -24,6 +24,4 @@ stored = (top / "crates/nosleep/data/receiver.dex").read_bytes()
 for name, found in (("sample_dex.py", sample_dex.layout(*sample_dex.BODIES["worked"])), ("the tests", in_tests("RECEIVER"))):
     if found != stored:
         sys.exit(f"crates/nosleep/data/receiver.dex differs from what {name} has")
-if make_hierarchy.sample() != in_tests("CALLS"):
-    sys.exit("the tests hold another application of calls than bench/make_hierarchy.py lays out")
 print("the stored samples are the same wherever they stand")

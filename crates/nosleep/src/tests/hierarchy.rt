@@ -34,8 +34,7 @@ fn link_parts(alloc: Global, file: DexParts) -> Result<App, AllocError>
     }
 }
 
-/// The application of a file.
-pub fn link_file(alloc: Global, bytes: &[u8]) -> Result<App, AllocError>
+fn link_file(alloc: Global, bytes: &[u8]) -> Result<App, AllocError>
     requires { length bytes.now ≤ 33554432 }
 {
     match read_dex(alloc, bytes) {
