@@ -13,6 +13,10 @@ make_workspace call_times "call_targets class_graph app_link dex_file app_model 
     ns_base dex_bytes dex_tables dex_code dalvik dalvik_decode method_graph dex_file app_model class_graph call_reach \
     call_targets app_rows app_link
 
+mkdir -p "$work/crates/call_times/proofs/link_file"
+cp "$top/bench/call_times/link_file.antt.in" "$work/crates/call_times/proofs/link_file/Answers.antt"
+touch "$work/crates/call_times/proofs/Lib.antt"
+
 for shape in chain crossing; do
     for count in 2000 8000; do
         PYTHONDONTWRITEBYTECODE=1 python3 "$top/bench/make_hierarchy.py" $shape $count "$work/$shape-$count.dex"

@@ -12,7 +12,6 @@ make_workspace() {
     shift 2
     mkdir -p "$work/crates/$program/src"
     cp "$top/bench/$program/main.rt.in" "$work/crates/$program/src/main.rt"
-    [ ! -d "$top/bench/$program/proofs" ] || cp -R "$top/bench/$program/proofs" "$work/crates/$program/proofs"
     for crate in "$@"; do
         cp -R "$top/crates/$crate" "$work/crates/$crate"
         grep "^$crate:" "$top/crates.txt" >> "$work/crates.txt"
