@@ -7,7 +7,7 @@ chain: COUNT classes, each the subclass of the one before it; every eighth one d
 crossing: COUNT interfaces, each below the one before it and the seventh before it; of each hundredth one there is a class
 with a method `f`.
 entries: a call graph of COUNT entries, at least 16,776,528: 5,792 classes in a chain that all declare `f`, and static calls.
-sample: the small application of the tests of `crates/nosleep/src/tests/hierarchy.rt`; COUNT is not used.
+sample: a small application with each kind of call; COUNT is not used.
 """
 import sys
 
