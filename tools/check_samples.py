@@ -1,5 +1,5 @@
 #!/usr/bin/env python3
-"""Checks that the stored samples are what the independent scripts lay out, and that the tests of nosleep hold these bytes."""
+"""Checks that the stored sample is what sample_dex.py lays out, and that the tests of nosleep hold the same bytes."""
 import pathlib
 import re
 import sys
@@ -7,10 +7,6 @@ import sys
 import sample_dex
 
 top = pathlib.Path(__file__).resolve().parent.parent
-sys.path.insert(0, str(top / "bench"))
-sys.dont_write_bytecode = True
-import make_hierarchy  # noqa: E402
-
 literal = (top / "crates/nosleep/src/tests/sample.rt").read_text()
 
 
@@ -24,4 +20,4 @@ stored = (top / "crates/nosleep/data/receiver.dex").read_bytes()
 for name, found in (("sample_dex.py", sample_dex.layout(*sample_dex.BODIES["worked"])), ("the tests", in_tests("RECEIVER"))):
     if found != stored:
         sys.exit(f"crates/nosleep/data/receiver.dex differs from what {name} has")
-print("the stored samples are the same wherever they stand")
+print("the stored sample is the same in all three places")
