@@ -1,14 +1,18 @@
 -- Tags and their cells.
-use Rattle.std.proofs.Common.{sym, ◌≡◌, ℕ, zero, suc, ◌+◌, ◌*◌, ◌<◌, ◌≤◌, List, [], length, slice_index_or, refl, ⊎_elim, arith, lt-ltb, le-ltb}
+use Rattle.std.proofs.Common.{sym, ap, ◌∙◌, ◌≡◌, ℕ, zero, suc, ◌+◌, ◌*◌, ◌<◌, ◌≤◌, List, [], length, length-set, map, slice_index_or, slice_set, refl, ⊎_elim, arith, lt-ltb, le-ltb}
 use Rattle.std.proofs.lemmas.Grind.{common_steps}
 use Rattle.std.proofs.lemmas.Bool.{cases_lt}
 use Rattle.std.proofs.lemmas.Bool.Decides.{nat_tests}
-use Rattle.std.proofs.lemmas.List.{get_or_past}
+use Rattle.std.proofs.lemmas.List.{get_or-map, get_or_past, length-map, map-set}
+use Rattle.std.proofs.lemmas.List.Elements.{All-set}
+use Rattle.std.specs.declared.alloc.Global.{Global}
+use Rattle.std.specs.declared.vec.Vec.{Vec}
+use Rattle.std.specs.Vec.{with_item}
 use Rattle.std.proofs.lemmas.List.FromFn.{get_or-map-range_with_len, length-map-range_with_len}
 use Rattle.std.specs.List.{All}
 use Rattle.app_model.specs.declared.tag.Tag.{Tag}
 use Rattle.app_model.specs.declared.tag.Tag.TheVariants.{Bot, Zero, Solid, Held, Any, Field, New, Mixed}
-use Rattle.app_model.specs.TagTable.{TagParts, IsTagTable, HasCell, tag_of, cell_of, cell_count, lock_no, cell_at, row_at, tag_at, width_at}
+use Rattle.app_model.specs.TagTable.{TagParts, IsTagTable, HasCell, tag_of, cell_of, cell_count, lock_no, cell_at, row_at, tag_at, width_at, with_cell}
 
 tag_of_held : (l : ℕ) → l < 64 → tag_of (5 + l) ≡ Held (lock_no l)
 unfolding tag_of
@@ -81,11 +85,14 @@ cell_here cells place below =
     ⊎_elim (λ (within : place < length cells). below place 0 within)
     (λ (past : length cells ≤ place). rw (get_or_past cells place 0 past) (omega arith)) (cases_lt place (length cells))
 
+row_below : (table : TagParts) (m : ℕ) → IsTagTable table → All (λ cell. cell < cell_count) (slice_index_or table.cells m [])
+row_below table m sound =
+    ⊎_elim (λ (within : m < length table.cells). sound.cells m [] within)
+    (λ (past : length table.cells ≤ m). rw (get_or_past table.cells m [] past) (λ i d lt. absurd (omega (arith, lt)))) (cases_lt m (length table.cells))
+
 pub cell_below : (table : TagParts) (m place : ℕ) → IsTagTable table → cell_at table m place < cell_count
 unfolding cell_at
-cell_below table m place sound =
-    ⊎_elim (λ (within : m < length table.cells). cell_here _ place (sound.cells m [] within))
-    (λ (past : length table.cells ≤ m). rw (get_or_past table.cells m [] past) (omega arith)) (cases_lt m (length table.cells))
+cell_below table m place sound = cell_here _ place (row_below table m sound)
 
 -- the row has a tag for each register, and one more
 pub length-row_at : (table : TagParts) (m i : ℕ) → length (row_at table m i) ≡ width_at table m
@@ -103,3 +110,41 @@ tag_within table m i r within =
 
 pub tag_past : (table : TagParts) (m i r : ℕ) → width_at table m ≤ r → tag_at table m i r ≡ Bot
 tag_past table m i r past = get_or_past (row_at table m i) r Bot (omega (arith, length-row_at table m i, past))
+
+-- ---- a write of one cell
+abbrev items_of : Vec ℕ Global → List ℕ
+items_of v = v.items
+
+-- a row that is there, as contracts see it
+row_here : (rows : List (Vec ℕ Global)) (m place : ℕ) (v : Vec ℕ Global) → v ≡ slice_index_or rows m v → place < length (slice_index_or (map items_of rows) m [])
+    → slice_index_or (map items_of rows) m [] ≡ v.items
+row_here rows m place v is within =
+    ⊎_elim (λ (here : m < length rows). get_or-map items_of rows m v [] here ∙ ap items_of (sym is))
+    (λ (past : length rows ≤ m). absurd (let none = get_or_past (map items_of rows) m [] (omega (arith, length-map rows items_of, past)) in let below : place < 0 = rw none at within in omega arith))
+    (cases_lt m (length rows))
+
+pub put_row : (rows : List (Vec ℕ Global)) (m place cell : ℕ) (v : Vec ℕ Global) → v ≡ slice_index_or rows m v → place < length (slice_index_or (map items_of rows) m [])
+    → map items_of (slice_set rows m (with_item v place cell)) ≡ slice_set (map items_of rows) m (slice_set (slice_index_or (map items_of rows) m []) place cell)
+put_row rows m place cell v is within =
+    map-set items_of rows m (with_item v place cell)
+    ∙ ap (λ (row : List ℕ). slice_set (map items_of rows) m (slice_set row place cell)) (sym (row_here rows m place v is within))
+
+abbrev AreCells : List ℕ → Type 0
+AreCells cells = All (λ cell. cell < cell_count) cells
+
+pub put_table : (table : TagParts) (m place cell : ℕ) → IsTagTable table → cell < cell_count → IsTagTable (with_cell table m place cell)
+unfolding with_cell
+put_table table m place cell sound below = record {
+  methods = length-set table.cells m _ ∙ sound.methods;
+  cells = All-set AreCells table.cells m _ (All-set (λ c. c < cell_count) (slice_index_or table.cells m []) place cell below (row_below table m sound)) sound.cells;
+}
+
+pub below_count : (tag : Tag) → HasCell tag → cell_of tag < cell_count
+below_count Bot fits = omega arith
+below_count Zero fits = omega arith
+below_count Solid fits = omega arith
+below_count Any fits = omega arith
+below_count Mixed fits = omega arith
+below_count (Held l) fits = omega (arith, fits)
+below_count (Field l) fits = omega (arith, fits)
+below_count (New s) fits = omega (arith, fits)

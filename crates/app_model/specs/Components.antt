@@ -1,5 +1,5 @@
 -- Components, the edges of their lifecycles in order, and the methods of their callbacks.
-use Rattle.std.specs.Prelude.{ℕ, ◌≡◌, ◌≢◌, ◌<◌, ◌≤◌, ◌^◌, true, false, List, [], ◌∷◌, length, Option, Some, None, slice_get, position, bytes_eq, codes}
+use Rattle.std.specs.Prelude.{ℕ, ◌≡◌, ◌≢◌, ◌<◌, ◌≤◌, ◌^◌, true, false, List, [], ◌∷◌, length, filter_map, flat_map, Option, Some, None, slice_get, position, bytes_eq, codes}
 use Rattle.std.specs.List.{All, AllPairs}
 use Rattle.std.specs.Option.{option_and_then}
 use Rattle.ns_base.specs.Answers.{limit_of}
@@ -130,6 +130,10 @@ exits_of (Some component) = component.exits
 -- the policy exits of component c, as a mask over its callbacks
 unfoldable pub exits_at : List ComponentParts → ℕ → ℕ
 exits_at list c = exits_of (slice_get list c)
+
+-- the methods of all callbacks: where runs of the application enter it
+unfoldable pub entries_of : List ComponentParts → List MethodNo
+entries_of list = flat_map (λ (c : ComponentParts). filter_map (λ (m : Option MethodNo). m) c.methods) list
 
 -- ---- which method is a callback
 -- the number of a name, and that of a prototype, where the application names them

@@ -1,12 +1,9 @@
 -- What the analysis speaks of: an application with its call graph, its component list and its tags.
-use Rattle.std.specs.Prelude.{ℕ, ◌≡◌, ◌<◌, ◌≤◌, ◌*◌, ◌==◌, Bool, true, false, if◌then◌else◌, List, [], length, map, Option, Some, None, Contains, slice_get, slice_index, slice_index_or}
+use Rattle.std.specs.Prelude.{ℕ, ◌≡◌, ◌<◌, ◌≤◌, ◌==◌, Bool, true, false, List, length, Option, Some, None, Contains, slice_get, slice_index, slice_index_or}
 use Rattle.std.specs.Int.{bit_at}
 use Rattle.ns_base.specs.declared.rows.ComponentNo.{ComponentNo}
-use Rattle.ns_base.specs.declared.rows.LockNo.{LockNo}
 use Rattle.ns_base.specs.declared.rows.MethodNo.{MethodNo}
-use Rattle.app_model.specs.declared.rows.MethodRow.{MethodRow}
 use Rattle.app_model.specs.declared.tag.Tag.{Tag}
-use Rattle.app_model.specs.declared.tag.Tag.TheVariants.{Held, Field}
 use Rattle.app_model.specs.CallGraph.{GraphParts}
 use Rattle.app_model.specs.CallGraph as graph
 use Rattle.app_model.specs.Components.{ComponentParts, BelongsTo, callback_at}
@@ -61,13 +58,6 @@ unfoldable pub slot_count : SubjectParts → ℕ
 slot_count x = length x.app.locks
 
 -- ---- what always holds of it
--- a row for each instruction of a method that is reached, and lock fields of the application alone
-pub record FitsTags (x : SubjectParts) : Type 0 where
-  pub registers : x.tags.registers ≡ map (λ (method : MethodRow). method.registers) x.app.methods
-  pub rows : (m : ℕ) → length (slice_index_or x.tags.cells m []) ≡ (if is_reached x m then code_len x.app m * table.width_at x.tags m else 0)
-  pub held : (m i r : ℕ) (l : LockNo) → tag_at x m i r ≡ Held l → l.0 < slot_count x
-  pub fields : (m i r : ℕ) (l : LockNo) → tag_at x m i r ≡ Field l → l.0 < slot_count x
-
 -- one entry a method, one with an instruction; callbacks and callees are among them
 pub record AreReached (x : SubjectParts) : Type 0 where
   pub methods : length x.reached ≡ length x.app.methods
@@ -79,7 +69,7 @@ pub record IsSubject (x : SubjectParts) : Type 0 where
   pub sound : IsSoundApp x.app
   pub list : BelongsTo x.app x.list
   pub fits_graph : graph.FitsCode x.app x.graph
-  pub fits_tags : FitsTags x
+  pub fits_tags : table.FitsReached x.app (is_reached x) x.tags
   pub reaches : AreReached x
   pub slots : slot_count x ≤ 64
   pub answers : length x.answers ≡ length x.list

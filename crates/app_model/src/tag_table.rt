@@ -1,6 +1,6 @@
 //! What is known of each register before each instruction.
-ghost use Rattle.std.specs.Prelude.{◌≡◌, ◌<◌, ◌+◌, map, ◌≤◌, ◌^◌};
-ghost use Rattle.app_model.specs.TagTable.{IsTagTable, HasCell, cell_count, tag_of, cell_of, cell_at, width_at, tag_at};
+ghost use Rattle.std.specs.Prelude.{◌≡◌, ◌<◌, ◌+◌, [], length, map, slice_index_or, ◌≤◌, ◌^◌};
+ghost use Rattle.app_model.specs.TagTable.{IsTagTable, HasCell, cell_count, tag_of, cell_of, cell_at, width_at, tag_at, with_cell};
 
 use crate::tag::Tag;
 use ns_base::{LockNo, MethodNo};
@@ -96,6 +96,26 @@ impl TagTable {
         }
         let place = index as usize * (registers as usize + 1) + register as usize;
         Tag::of_cell(self.cell(method, place))
+    }
+
+    /// The cells of a method, row by row: the tag of each is that of `Tag::of_cell`. None in a method that is not reached.
+    pub fn cells(&self, method: MethodNo) -> &[u16]
+        ensures { result.now ≡ slice_index_or self.now.cells method.0 [] }
+    {
+        match self.cells.get(method.0 as usize) {
+            Some(cells) => cells,
+            None => &[],
+        }
+    }
+
+    /// Puts a tag into the cell at a place of a method's cells.
+    #[tactic(auto, unfolding(crate::specs::TagTable::with_cell))]
+    pub fn put(&mut self, method: MethodNo, place: usize, tag: Tag)
+        requires place { place < length (slice_index_or self.old.cells method.0 []) }
+        requires fits { HasCell tag }
+        ensures { self.new ≡ with_cell self.old method.0 place (cell_of tag) }
+    {
+        self.cells[method.0 as usize][place] = tag.cell();
     }
 
     /// How many cells a row of a method has: one for each register, and the result cell.

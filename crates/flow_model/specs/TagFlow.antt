@@ -1,14 +1,15 @@
 -- Where tags flow: from the entries of callbacks on to each successor, to each handler, into callees and back. A table of
 -- tags is closed where no flow leads above it.
-use Rattle.std.specs.Prelude.{ℕ, ◌≡◌, ◌≢◌, ◌<◌, Bool, true, false, List, [], Option, Some, None, Contains, length, map, slice_get, slice_set}
+use Rattle.std.specs.Prelude.{ℕ, ◌≡◌, ◌≢◌, ◌<◌, ◌↔◌, Bool, true, false, List, [], Option, Some, None, Contains, length, map, slice_get, slice_set}
 use Rattle.ns_base.specs.declared.rows.MethodNo.{MethodNo}
 use Rattle.dalvik.specs.declared.ins.Args.{Args}
 use Rattle.app_model.specs.CallGraph.{GraphParts, callees_at, outside_at}
-use Rattle.app_model.specs.Components.{ComponentParts, callback_at}
+use Rattle.app_model.specs.Components.{ComponentParts, callback_at, entries_of}
 use Rattle.app_model.specs.Parts.{AppParts}
 use Rattle.app_model.specs.Sites.{site_at}
-use Rattle.app_model.specs.TagTable.{TagParts, row_at, tag_at}
-use Rattle.app_model.specs.Words.{successor_at, handler_at}
+use Rattle.app_model.specs.Reach.{Assigns, IsReached}
+use Rattle.app_model.specs.TagTable.{TagParts, FitsReached, row_at, tag_at}
+use Rattle.app_model.specs.Words.{code_len, successor_at, handler_at}
 use Rattle.app_model.specs.declared.lock_use.LockUse.{LockUse}
 use Rattle.app_model.specs.declared.rows.MethodRow.{MethodRow}
 use Rattle.app_model.specs.declared.tag.Tag.{Tag}
@@ -114,9 +115,9 @@ pub data Flow (app : AppParts) (graph : GraphParts) (list : List ComponentParts)
   throws_out : {m j : ℕ} (i k : ℕ) (n : MethodNo) → Contains (callees_at graph m i) n → handler_at app m i k ≡ Some j → IsLive (row_at table m i)
       → Flow app graph list gone table m j (called (gone n.0) (row_at table m i))
 
--- no flow leads above the table
+-- no flow leads above the table; into a method without instructions none does
 pub record IsClosedTable (app : AppParts) (graph : GraphParts) (list : List ComponentParts) (gone : (n l : ℕ) → Bool) (table : TagParts) : Type 0 where
-  pub by : {m j : ℕ} {row : List Tag} → Flow app graph list gone table m j row → (r : ℕ) → r < length row → Under (tag_in row r) (tag_at table m j r)
+  pub by : {m j : ℕ} {row : List Tag} → Flow app graph list gone table m j row → j < code_len app m → (r : ℕ) → r < length row → Under (tag_in row r) (tag_at table m j r)
 
 abbrev pub TableUnder : TagParts → TagParts → Type 0
 TableUnder low high = (m i r : ℕ) → Under (tag_at low m i r) (tag_at high m i r)
@@ -125,3 +126,19 @@ TableUnder low high = (m i r : ℕ) → Under (tag_at low m i r) (tag_at high m 
 pub record IsLeastTable (app : AppParts) (graph : GraphParts) (list : List ComponentParts) (gone : (n l : ℕ) → Bool) (table : TagParts) : Type 0 where
   pub closed : IsClosedTable app graph list gone table
   pub least : (other : TagParts) → other.registers ≡ table.registers → IsClosedTable app graph list gone other → TableUnder table other
+
+-- ---- the table of an application with its call graph and its component list
+-- a test of which methods the callbacks reach, and one of the lock fields to which the reach of each method stores
+abbrev pub TellsReached : GraphParts → List ComponentParts → (ℕ → Bool) → Type 0
+TellsReached graph list reached = (m : ℕ) → (reached m ≡ true) ↔ IsReached graph (entries_of list) m
+
+abbrev pub TellsStores : AppParts → GraphParts → ((n l : ℕ) → Bool) → Type 0
+TellsStores app graph gone = (n l : ℕ) → (gone n l ≡ true) ↔ Assigns app graph n l
+
+pub record IsTagTableOf (app : AppParts) (graph : GraphParts) (list : List ComponentParts) (table : TagParts) : Type 0 where
+  pub reached : ℕ → Bool
+  pub reaches : TellsReached graph list reached
+  pub gone : (n l : ℕ) → Bool
+  pub stores : TellsStores app graph gone
+  pub fits : FitsReached app reached table
+  pub least : IsLeastTable app graph list gone table
