@@ -8,3 +8,5 @@ pub mod Subject
 pub mod Rules
 pub mod Places
 pub mod Policy
+pub mod Breaks
+pub mod InScope

@@ -9,17 +9,12 @@ use Rattle.app_model.specs.Names.{type_text}
 use Rattle.act_model.specs.declared.act.Act.{Act}
 use Rattle.act_model.specs.declared.act.Act.TheVariants.{Call}
 use Rattle.act_model.specs.Acts.{act_at}
+use Rattle.flow_model.specs.Breaks.{thread_names}
 use Rattle.flow_model.specs.Passes.{is_instance}
 use Rattle.flow_model.specs.Scope.{is_escape, is_wrong_call, stores_new}
 use Rattle.straight_code.specs.Path.{row_before}
 
 -- ---- threads
-abbrev pub thread_names : List (List ℕ)
-thread_names =
-    codes "Ljava/lang/Thread;" ∷ codes "Ljava/util/Timer;" ∷ codes "Ljava/util/concurrent/Executor;"
-    ∷ codes "Ljava/util/concurrent/ExecutorService;" ∷ codes "Ljava/util/concurrent/ThreadPoolExecutor;"
-    ∷ codes "Landroid/os/AsyncTask;" ∷ codes "Landroid/os/HandlerThread;" ∷ codes "Landroid/app/IntentService;" ∷ []
-
 unfoldable pub is_thread_name : List ℕ → Bool
 is_thread_name name = list_any (bytes_eq name) thread_names
 
