@@ -1,2 +1,3 @@
 pub mod TagLaws
 mod Examples
+pub mod Lengths

@@ -8,6 +8,7 @@ pub mod Entries
 pub mod Callbacks
 pub mod Slots
 pub mod Targets
+pub mod Scope
 pub mod Steps
 pub mod Masks
 pub mod LockCalls

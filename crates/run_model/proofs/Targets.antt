@@ -1,11 +1,12 @@
 -- Where the machine's calls lead, the targets of the call are.
 use Rattle.std.proofs.Common.{◌≡◌, ℕ, zero, suc, ◌+◌, ◌<◌, ◌≤◌, ◌==◌, Bool, true, false, if◌then◌else◌, List, [], ◌∷◌, length, map, Option, Some, None, slice_get, get_or, refl, sym, ap, ap₂, ◌∙◌, arith, subst, subst₂, ⊎_elim}
-use Rattle.std.specs.Prelude.{nat_lt, ◌||◌, not, filter, is_none, Contains}
+use Rattle.std.specs.Prelude.{nat_lt, ◌||◌, not, filter, is_none, is_some, slice_index_or, Contains}
 use Rattle.std.specs.List.{list_any, position_or_len, range_with_len}
-use Rattle.std.proofs.lemmas.Bool.{and_parts, or_cases, or_right, cases_eq, eq-eqb, eqb-true, false≢true}
+use Rattle.std.proofs.lemmas.Bool.{and_parts, or_cases, or_right, cases_eq, cases_lt, eq-eqb, eqb-true, false≢true}
 use Rattle.std.proofs.lemmas.Bool.Decides.{nat_tests}
 use Rattle.std.proofs.lemmas.List.Sums.{fails_before_first}
-use Rattle.std.proofs.lemmas.Option.{slice_get-get_or}
+use Rattle.std.proofs.lemmas.Option.{slice_get-get_or, slice_get_within}
+use Rattle.std.proofs.lemmas.List.{get_or_past}
 use Rattle.std.proofs.lemmas.List.Folds.{list_any-append}
 use Rattle.std.proofs.lemmas.List.Quantifiers.{position-Some}
 use Rattle.ns_base.specs.declared.rows.TypeNo.{TypeNo}
@@ -24,7 +25,10 @@ use Rattle.app_model.specs.Parts.{AppParts, ClassParts}
 use Rattle.app_model.specs.Slots.{slot_at}
 use Rattle.app_model.specs.Subject.{SubjectParts}
 use Rattle.app_model.specs.Targets.{call_by, finds, found_above, found_by, found_of, found_on, is_foreign, is_method, is_on_array, is_plain, may_receive as may_receive_of, method_no, row_of, super_of, targets_by, targets_in, targets_of_call}
-use Rattle.app_model.specs.Words.{ins_at, named_at}
+use Rattle.app_model.specs.Sound.{IsSoundApp}
+use Rattle.app_model.specs.Words.{ins_at, ins_of, named_at, no_body, place_at, places_of}
+use Rattle.dalvik.specs.declared.body.Place.{Place}
+use Rattle.app_model.proofs.Invokes.{named_exact}
 use Rattle.act_model.specs.declared.act.Act.{Act}
 use Rattle.act_model.specs.declared.act.Act.TheVariants.{Go, Check, TakeResult, Test, Write, Call}
 use Rattle.act_model.specs.declared.act.Throws.{Throws}
@@ -220,6 +224,26 @@ invoked app m i by usage arguments given is = go (ins_at app m i) is
     go None is = cc
     go (Some own) is = call_own app m i own by usage arguments given (cc)
 
+-- an invoke names a method
+method_there : (app : AppParts) (m i : ℕ) (place : Place) → IsSoundApp app → place_at app m i ≡ Some place → m < length app.methods
+unfolding place_at places_of
+method_there app m i place sound there =
+    ⊎_elim (λ (here : m < length app.code). omega (arith, here, sound.sizes.code))
+    (λ (past : length app.code ≤ m). absurd (let within = slice_get_within (slice_index_or app.code m no_body).places i place there in let none : i < 0 = rw (get_or_past app.code m no_body past) at within in omega (arith, none)))
+    (cases_lt m (length app.code))
+
+named_there : (app : AppParts) (m i : ℕ) (by : By) (usage : LockUse) (arguments : Args) (given : Gives) → IsSoundApp app → act_at app m i ≡ Some (Call by usage arguments given) → is_some (named_at app m i) ≡ true
+unfolding place_at
+named_there app m i by usage arguments given sound is = go (place_at app m i) refl
+  where
+    own : IsInvoke app m i (ins_at app m i) by usage
+    own = invoked app m i by usage arguments given is
+
+    go : (o : Option Place) → place_at app m i ≡ o → is_some (named_at app m i) ≡ true
+    go None none = absurd (let e : invoke_of (ins_of None) ≡ Some own.op = rw none at own.is in cc)
+    go (Some place) there =
+        named_exact app m i sound (method_there app m i place sound there) (slice_get_within (places_of app m) i place there) ∙ ap is_some own.is
+
 -- where the machine's call leads is among the targets of a graph that has what the call can call
 module _ (x : SubjectParts) (m i : ℕ) (by : By) (usage : LockUse) (arguments : Args) (given : Gives) (row : targets_at x.graph m i ≡ targets_in x.app m i) (is : act_at x.app m i ≡ Some (Call by usage arguments given)) where
   pub target_fits : (type : Option ℕ) → FitsTarget (targets_at x.graph m i) (target_of x.app m by usage (named_at x.app m i) type)
@@ -236,3 +260,33 @@ module _ (x : SubjectParts) (m i : ℕ) (by : By) (usage : LockUse) (arguments :
           let used : use_of x.app own.op named ≡ usage = sym (ap₂ (use_by x.app) own.is there) ∙ own.used in
           subst (λ (r : TargetParts). FitsTarget r (named_target x.app m by usage named type)) (sym targets)
           (subst₂ (λ (b : By) (u : LockUse). FitsTarget (targets_of_call x.app m own.op named) (named_target x.app m b u named type)) own.form used (fits_named x.app m own.op named type))
+
+  -- a type that the receiver may have
+  receiver_type : (form : By) (named : Named) → (type : Option ℕ) × (may_receive x.app form named type ≡ true)
+  unfolding may_be_sub is_sub
+  receiver_type Virtual named = go (class_of_type x.app.classes named.class.0) refl
+    where
+      go : (o : Option ℕ) → class_of_type x.app.classes named.class.0 ≡ o → (type : Option ℕ) × (may_be_sub x.app type named.class.0 ≡ true)
+      go None there = (None, rw there refl)
+      go (Some c) there = (Some named.class.0, rw (eq-eqb named.class.0 named.class.0 refl) refl)
+  receiver_type Super named = (None, refl)
+  receiver_type Direct named = (None, refl)
+  receiver_type Static named = (None, refl)
+
+  somewhere : (array plain : Bool) (o : Option ℕ) (row : TargetParts) → row.callees ≡ [] → FitsTarget row (if array then GoesOutside else (if plain then found_target o else GoesOutside)) → row.outside ≡ true
+  somewhere true plain o row none fits = fits
+  somewhere false false o row none fits = fits
+  somewhere false true None row none fits = fits
+  somewhere false true (Some n) row none fits = absurd (let there : Contains [] (method_no n) = rw none at fits in omega (arith, there.1))
+
+  -- a call that has no callee leads outside
+  pub none_outside : IsSoundApp x.app → (targets_at x.graph m i).callees ≡ [] → (targets_at x.graph m i).outside ≡ true
+  none_outside sound none = go (named_at x.app m i) refl
+    where
+      go : (o : Option Named) → named_at x.app m i ≡ o → (targets_at x.graph m i).outside ≡ true
+      go None there = absurd (false≢true (sym (ap is_some there) ∙ named_there x.app m i by usage arguments given sound is))
+      go (Some named) there =
+          let type = receiver_type by named in
+          somewhere (is_on_array x.app named) (is_plain usage) (found_for x.app m by named type.0) (targets_at x.graph m i) none
+          (subst (λ (may : Bool). FitsTarget (targets_at x.graph m i) (if is_on_array x.app named then GoesOutside else (if not may then IsStuck else (if is_plain usage then found_target (found_for x.app m by named type.0) else GoesOutside)))) type.1
+          (subst (λ (o : Option Named). FitsTarget (targets_at x.graph m i) (target_of x.app m by usage o type.0)) there (target_fits type.0)))

@@ -5,7 +5,8 @@ ghost use Rattle.app_model.specs.Masks.{is_held};
 ghost use Rattle.flow_model.specs.Policy.{MeetsPolicy};
 ghost use Rattle.flow_model.specs.Rules.{Inner, Rules};
 ghost use Rattle.flow_model.specs.Subject.{status_masks};
-ghost use Rattle.app_model.specs.Subject.{SubjectParts, slot_count};
+ghost use Rattle.app_model.specs.Subject.{IsSubject, SubjectParts, callees_at, is_reached, slot_count};
+ghost use Rattle.flow_model.specs.InScope.{IsInScope};
 ghost use Rattle.act_model.specs.Acts.{act_at};
 ghost use Rattle.act_model.specs.declared.act.Act.TheVariants.{Call};
 ghost use Rattle.act_model.specs.declared.act.Gives.{Gives};
@@ -31,6 +32,12 @@ pub fn soundness()
     ensures runs { (x : SubjectParts) (l : ℕ) (set : Set) → IsTagged x → l < slot_count x → IsClosed (Rules x l) set → MeetsPolicy x l set → (choices : List ℕ) → StandsWell x l (run_of x choices) }
     ensures counts { (x : SubjectParts) (l : ℕ) (set : Set) → IsTagged x → l < slot_count x → IsClosed (Rules x l) set → MeetsPolicy x l set → (choices : List ℕ) → LeavesNoneHeld x l (run_of x choices) }
     ensures relation { (x : SubjectParts) (l : ℕ) (set : Set) → IsTagged x → IsClosed (Rules x l) set → (choices : List ℕ) → IsSound x l set (run_of x choices) }
+{}
+
+/// What a subject in scope has of what soundness asks: its tags follow the code, no lock escapes, no call of a lock is
+/// wrong. What is left to ask is that no reached call has a method of the application as its callee.
+pub fn scope_law()
+    ensures tagged { (x : SubjectParts) → IsSubject x → IsInScope x → ((m i : ℕ) → is_reached x m ≡ true → callees_at x m i ≡ []) → IsTagged x }
 {}
 
 /// The part of it that needs the rules inside callbacks alone: the start of a callback, and each step inside it.

@@ -31,6 +31,7 @@ use Rattle.act_model.specs.declared.act.Written.TheVariants as written
 use Rattle.act_model.specs.Acts.{act_at}
 use Rattle.act_model.specs.Changes.{after, after_stored, call_change, field_after, given_tag, held_change, held_tag, is_pair, new_after, put, result_cell, result_tag, stored_change, tag_in, without_held, written_tag}
 use Rattle.act_model.specs.Entries.{callback_row, callback_words, fitted}
+use Rattle.act_model.proofs.Lengths.{length_after, length_entry}
 use Rattle.flow_model.specs.Subject.{mask_passes, status_masks}
 use Rattle.flow_model.proofs.TestLaws.{same_number}
 use Rattle.straight_code.specs.Body.{IsPlainBody}
@@ -247,43 +248,9 @@ kept_on site None row all h = h
 kept_on site (Some act) row all h = kept_after site act row (all act refl) h
 
 -- ---- rows keep their length
-length_put : (wide : Bool) (row : List Tag) (to : ℕ) (first second : Tag) → length (put wide row to first second) ≡ length row
-length_put true row to first second = length-set (set row to first) (to + 1) second ∙ length-set row to first
-length_put false row to first second = length-set row to first
-
-length_stored : (row : List Tag) (from : ℕ) (l : LockNo) (stored : Tag) → length (after_stored row from l stored) ≡ length row
-length_stored row from l (New s) = length-set (map (stored_change l.0 (New s)) row) from (Field l) ∙ length-map row (stored_change l.0 (New s))
-length_stored row from l Bot = length-map row (stored_change l.0 Bot)
-length_stored row from l Zero = length-map row (stored_change l.0 Zero)
-length_stored row from l Solid = length-map row (stored_change l.0 Solid)
-length_stored row from l (Held k) = length-map row (stored_change l.0 (Held k))
-length_stored row from l Any = length-map row (stored_change l.0 Any)
-length_stored row from l (Field k) = length-map row (stored_change l.0 (Field k))
-length_stored row from l Mixed = length-map row (stored_change l.0 Mixed)
-
-length_after : (site : ℕ) (act : Act) (row : List Tag) → length (after site act row) ≡ length row
-length_after site Go row = refl
-length_after site (Test value branch) row = refl
-length_after site (Copy to from wide) row = length_put wide row to _ _
-length_after site (TakeResult to) row = length-set row to _
-length_after site (Write to what throws) row = length_put (is_pair what) row to _ _
-length_after site (Fill arguments kind) row = length-set row (result_cell row) Solid
-length_after site (ReadSlot to slot throws) row = length-set row to (Field slot)
-length_after site (WriteSlot from slot throws) row = length_stored row from slot (tag_in row from)
-length_after site (Give from throws) row = refl
-length_after site (Check throws) row = refl
-length_after site (Throw object) row = refl
-length_after site (Return answer) row = refl
-length_after site (Call by usage arguments gives) row = length-set (map (call_change usage _) row) (result_cell row) _ ∙ length-map row (call_change usage _)
-
 length_row_after : (site : ℕ) (o : Option Act) (row : List Tag) → length (row_after site o row) ≡ length row
 length_row_after site None row = refl
 length_row_after site (Some act) row = length_after site act row
-
-length_fitted : (count : ℕ) (words : List Tag) → length (fitted Zero count words) ≡ count
-length_fitted zero words = refl
-length_fitted (suc n) [] = ap suc (length_fitted n [])
-length_fitted (suc n) (tag ∷ words) = ap suc (length_fitted n words)
 
 -- ---- cells, a row an instruction
 cells_again : (row : List Tag) → AllKept row → map (λ (tag : Tag). tag_of (cell_of tag)) row ≡ row
@@ -303,11 +270,11 @@ module _ (app : AppParts) (small : IsSmallApp app) where
   abbrev width : ℕ
   width = small.method.registers + 1
 
-  length_entry : (o : Option MethodRow) → o ≡ Some small.method → length (callback_row app o) ≡ width
-  length_entry o eq = rw (eq, length-append, length-append, length-replicate, length_fitted small.method.ins (callback_words app small.method)) (omega (arith, small.fits))
+  length_callback : (o : Option MethodRow) → o ≡ Some small.method → length (callback_row app o) ≡ width
+  length_callback o eq = rw eq (length_entry small.method.registers small.method.ins (callback_words app small.method) small.fits)
 
   length_row : (i : ℕ) → length (row_before app 0 i) ≡ width
-  length_row zero = length_entry (slice_get app.methods 0) (ap (λ (ms : List MethodRow). slice_get ms 0) small.methods)
+  length_row zero = length_callback (slice_get app.methods 0) (ap (λ (ms : List MethodRow). slice_get ms 0) small.methods)
   length_row (suc i) = length_row_after (site_at app 0 i) (act_at app 0 i) (row_before app 0 i) ∙ length_row i
 
   length_cells : (n : ℕ) → length (cells_before app n) ≡ n * width
