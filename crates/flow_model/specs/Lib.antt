@@ -6,6 +6,7 @@ pub mod Scope
 pub mod TagFlow
 pub mod Subject
 pub mod Rules
+pub mod Rows
 pub mod Places
 pub mod Policy
 pub mod Breaks

@@ -5,6 +5,7 @@
 //! - `passes` follows the statuses through an act, where it goes on and where it throws.
 //! - `scope` tests an act by the rules of scope.
 //! - `instruction` asks both of an instruction of a subject.
+//! - `rows` asks it step by step, and counts.
 //! - `policy` has the violations of the exit policy.
 //!
 //! The flow rules and what they derive stand in `specs/` alone: `Derived`, `Subject`, `Rules`.
@@ -14,6 +15,7 @@ mod instruction;
 mod masks;
 mod passes;
 mod policy;
+mod rows;
 mod scope;
 mod status;
 
@@ -25,6 +27,7 @@ pub use masks::{
 };
 pub use passes::{Nullness, acquires, is_open, is_own, pass_mask, throw_mask};
 pub use policy::Violation;
+pub use rows::{Rows, StatusRows};
 pub use scope::{is_escape, is_wrong_call, stores_new};
 
 #[cfg(test)]

@@ -1,0 +1,4 @@
+pub mod Ors
+pub mod Bits
+pub mod Facts
+pub mod Starts

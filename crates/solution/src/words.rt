@@ -1,0 +1,123 @@
+//! Masks of eight statuses, and words of eight rows of eight statuses. A word is a relation: its row e has the statuses to
+//! which e leads.
+ghost use Rattle.std.specs.Prelude.{◌≡◌, ◌<◌, ℕ, true};
+ghost use Rattle.app_model.specs.Masks.{in_mask};
+ghost use Rattle.solution.specs.Words.{has, IsMask, AreRows, IsShifted, Leads, Joined, Itself, IsOne};
+
+/// Whether the mask has the status.
+fn has_status(mask: u8, status: u8) -> bool
+    requires { status < 8 }
+    ensures { result ≡ in_mask mask status }
+{
+    (mask >> status) & 1 == 1
+}
+
+/// A row of a word.
+pub fn row_of(word: u64, entry: u8) -> u8
+    requires { entry < 8 }
+    ensures { (t : ℕ) → in_mask result t ≡ has word entry t }
+{
+    ((word >> (8 * entry as u32)) & 255) as u8
+}
+
+/// A mask as a row of a word.
+pub fn shifted(mask: u8, entry: u8) -> u64
+    requires { entry < 8 }
+    ensures { IsShifted mask entry result }
+{
+    (mask as u64) << (8 * entry as u32)
+}
+
+/// The mask of one status.
+pub fn single(status: u8) -> u8
+    requires { status < 8 }
+    ensures { IsMask (λ t. t ≡ status) result }
+{
+    1 << status
+}
+
+/// The word of one status in one row.
+pub fn one(entry: u8, status: u8) -> u64
+    requires entry { entry < 8 }
+    requires status { status < 8 }
+    ensures { AreRows (IsOne entry status) 8 result }
+{
+    shifted(single(status), entry)
+}
+
+fn lead_one(mask: u8, word: u64, status: u8) -> u8
+    requires { status < 8 }
+    ensures { IsMask (Leads mask word status) result }
+{
+    if has_status(mask, status) {
+        row_of(word, status)
+    } else {
+        0
+    }
+}
+
+// Where the statuses of a mask lead by the rows of a word.
+fn lead(mask: u8, word: u64) -> u8
+    ensures { IsMask (λ t. (s : ℕ) × Leads mask word s t) result }
+{
+    let mut out = 0;
+    for status in 0..8u8 {
+        out |= lead_one(mask, word, status);
+    }
+    out
+}
+
+fn join_row(a: u64, b: u64, entry: u8) -> u8
+    requires { entry < 8 }
+    ensures { IsMask (Joined a b entry) result }
+{
+    let row = row_of(a, entry);
+    if row == 0 {
+        return 0;
+    }
+    lead(row, b)
+}
+
+/// Each row of a word, led on by the rows of another.
+pub fn join(a: u64, b: u64) -> u64
+    ensures { AreRows (Joined a b) 8 result }
+{
+    let mut word = 0;
+    for entry in 0..8u8 {
+        word |= shifted(join_row(a, b, entry), entry);
+    }
+    word
+}
+
+/// The statuses of all rows.
+pub fn all_of(word: u64) -> u8
+    ensures { IsMask (λ t. (e : ℕ) × (has word e t ≡ true)) result }
+{
+    let mut out = 0;
+    for entry in 0..8u8 {
+        out |= row_of(word, entry);
+    }
+    out
+}
+
+fn itself_row(mask: u8, status: u8) -> u8
+    requires { status < 8 }
+    ensures { IsMask (Itself mask status) result }
+{
+    if has_status(mask, status) {
+        single(status)
+    } else {
+        0
+    }
+}
+
+/// Each status of a mask in its own row.
+pub fn itself(mask: u8) -> u64
+    ensures { AreRows (Itself mask) 8 result }
+{
+    let mut word = 0;
+    for status in 0..8u8 {
+        word |= shifted(itself_row(mask, status), status);
+    }
+    word
+}
