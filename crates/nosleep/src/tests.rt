@@ -10,7 +10,6 @@ use std::alloc::{AllocError, Global};
 use std::fs;
 use std::test::Fail;
 
-mod hierarchy;
 mod layout;
 mod lists;
 mod rows;

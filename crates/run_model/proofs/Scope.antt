@@ -1,5 +1,5 @@
 -- What is in scope has what soundness asks: its tags follow the code, no lock escapes, and no call of a lock is wrong.
-use Rattle.std.proofs.Common.{◌≡◌, ℕ, zero, suc, ◌+◌, ◌<◌, ◌≤◌, Bool, true, false, List, [], ◌∷◌, length, map, Option, Some, None, slice_get, refl, sym, ap, ◌∙◌, arith, subst, ⊎_elim}
+use Rattle.std.proofs.Common.{◌≡◌, ℕ, ◌+◌, ◌<◌, ◌≤◌, Bool, true, false, List, [], length, Option, Some, None, slice_get, refl, sym, ap, ◌∙◌, arith, subst, ⊎_elim}
 use Rattle.std.specs.Prelude.{slice_index, slice_index_or}
 use Rattle.std.specs.List.{All}
 use Rattle.std.proofs.lemmas.Bool.{cases_lt}
@@ -14,21 +14,19 @@ use Rattle.app_model.specs.CallGraph as graph
 use Rattle.app_model.specs.Components.{callback_at}
 use Rattle.app_model.specs.Sites.{site_at}
 use Rattle.app_model.specs.Subject.{SubjectParts, IsSubject, callees_at, is_reached, row_at}
-use Rattle.app_model.specs.TagTable.{width_at}
 use Rattle.app_model.specs.Words.{code_len, handler_at, handler_of, no_body, pc_at, pc_of, place_at, places_of, successor_at, successor_of}
 use Rattle.app_model.proofs.Callees.{enterable}
 use Rattle.app_model.proofs.Cells.{length-row_at}
 use Rattle.act_model.specs.declared.act.Act.{Act}
 use Rattle.act_model.specs.declared.act.Act.TheVariants.{Call}
 use Rattle.act_model.specs.Acts.{act_at}
-use Rattle.act_model.specs.Changes.{after, tag_in, thrown}
+use Rattle.act_model.specs.Changes.{after}
 use Rattle.act_model.specs.Entries.{callback_row, callback_words}
-use Rattle.act_model.specs.Tags.{Under}
 use Rattle.act_model.proofs.Lengths.{length_after, length_entry, length_thrown}
 use Rattle.flow_model.specs.Breaks.{IsEntered, escape, wrong_call}
 use Rattle.flow_model.specs.InScope.{IsInScope, candidate_of}
 use Rattle.flow_model.specs.Scope.{is_escape, is_wrong_call}
-use Rattle.flow_model.specs.TagFlow.{Flow, IsLive, begins, goes_on, back_from_outside, throws, can_throw, is_call, leads_on}
+use Rattle.flow_model.specs.TagFlow.{Flow, IsLive, begins, goes_on, back_from_outside, throws, is_call, leads_on}
 use Rattle.run_model.specs.Tagged.{IsTagged, IsUnder}
 use Rattle.run_model.proofs.Targets.{none_outside}
 
@@ -41,7 +39,7 @@ module _ (x : SubjectParts) (sound : IsSubject x) (scope : IsInScope x) where
   width_there : (m : ℕ) (method : MethodRow) → slice_get x.app.methods m ≡ Some method → length (row_at x m 0) ≡ method.registers + 1
   width_there m method there =
       let read : slice_index x.tags.registers m ≡ method.registers =
-          rw sound.fits_tags.registers (get_or-map (λ (one : MethodRow). one.registers) x.app.methods m method 0 (slice_get_within x.app.methods m method there) ∙ ap (λ (one : MethodRow). one.registers) (get_or_from_slice_get x.app.methods m method method there)) in
+      rw sound.fits_tags.registers (get_or-map (λ (one : MethodRow). one.registers) x.app.methods m method 0 (slice_get_within x.app.methods m method there) ∙ ap (λ (one : MethodRow). one.registers) (get_or_from_slice_get x.app.methods m method method there)) in
       length-row_at x.tags m 0 ∙ ap (λ (n : ℕ). n + 1) read
 
   same_width : (m i j : ℕ) → length (row_at x m i) ≡ length (row_at x m j)
@@ -51,9 +49,9 @@ module _ (x : SubjectParts) (sound : IsSubject x) (scope : IsInScope x) where
   unfolding place_at places_of
   place_sound m i place there =
       let body : IsBody (slice_index_or x.app.code m no_body).registers (places_of x.app m) =
-          ⊎_elim (λ (here : m < length x.app.code). All-get_or (λ (b : BodyRows). IsBody b.registers b.places) x.app.code m no_body here sound.sound.bodies)
-          (λ (past : length x.app.code ≤ m). rw (get_or_past x.app.code m no_body past) (record { limit = omega arith; rising = λ a b d before within. absurd (omega (arith, within)); each = λ a d within. absurd (omega (arith, within)) }))
-          (cases_lt m (length x.app.code)) in
+      ⊎_elim (λ (here : m < length x.app.code). All-get_or (λ (b : BodyRows). IsBody b.registers b.places) x.app.code m no_body here sound.sound.bodies)
+      (λ (past : length x.app.code ≤ m). rw (get_or_past x.app.code m no_body past) (record { limit = omega arith; rising = λ a b d before within. absurd (omega (arith, within)); each = λ a d within. absurd (omega (arith, within)) }))
+      (cases_lt m (length x.app.code)) in
       let places = places_of x.app m in
       subst (IsSoundPlace (slice_index_or x.app.code m no_body).registers (length places)) (get_or_from_slice_get places i place place there)
       (All-get_or (IsSoundPlace (slice_index_or x.app.code m no_body).registers (length places)) places i place (slice_get_within places i place there) body.each)

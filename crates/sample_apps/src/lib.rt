@@ -1,6 +1,7 @@
 //! Small applications for tests that cross crates: from the bytes of a DEX file over reading and linking to what is found
 //! of its code. `data/` has the applications as texts and as the files that `tools/assemble.py` makes of them.
 #![tactic(auto)]
+
 ghost use Rattle.std.specs.Prelude.{◌≤◌, length};
 ghost use Rattle.dex_file.specs.Sizes.{IsShort};
 

@@ -5,6 +5,7 @@ use std::fs;
 use std::test::Fail;
 
 mod calls;
+mod hierarchy;
 
 // The application of a file of `data/`.
 fn read_app(rt: &HostRuntime, name: &str) -> Result<App, Fail> {

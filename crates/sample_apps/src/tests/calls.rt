@@ -14,17 +14,37 @@ static ROWS: [Row; 14] = [
     ("no call", (11, 0), &[], false),
     ("an override below the named class", (11, 1), &[0, 1], false),
     ("a class below one that no file has", (11, 2), &[2], true),
-    ("one that no file has, and what may be below it", (11, 3), &[2], true),
+    (
+        "one that no file has, and what may be below it",
+        (11, 3),
+        &[2],
+        true,
+    ),
     ("an array of numbers", (11, 4), &[], true),
-    ("a lock call, though a class has its name", (11, 5), &[], true),
-    ("inherited from a class that does not have the interface", (11, 6), &[6], true),
+    (
+        "a lock call, though a class has its name",
+        (11, 5),
+        &[],
+        true,
+    ),
+    (
+        "inherited from a class that does not have the interface",
+        (11, 6),
+        &[6],
+        true,
+    ),
     ("an abstract override is passed over", (11, 7), &[0], false),
     ("the first of two methods of one name", (11, 8), &[8], false),
     ("direct", (11, 9), &[0], false),
     ("static", (11, 10), &[10], false),
     ("super", (1, 0), &[0], false),
     ("super of a class that no file has", (3, 0), &[], true),
-    ("an array of a class that has the method", (13, 0), &[], true),
+    (
+        "an array of a class that has the method",
+        (13, 0),
+        &[],
+        true,
+    ),
 ];
 
 fn graph_of(rt: &HostRuntime, app: &App) -> Result<CallGraph, Fail> {
@@ -38,7 +58,11 @@ fn graph_of(rt: &HostRuntime, app: &App) -> Result<CallGraph, Fail> {
 }
 
 fn are_methods(methods: &[MethodNo], numbers: &[u32]) -> bool {
-    methods.len() == numbers.len() && methods.iter().zip(numbers).all(|(method, number)| method.0 == *number)
+    methods.len() == numbers.len()
+        && methods
+            .iter()
+            .zip(numbers)
+            .all(|(method, number)| method.0 == *number)
 }
 
 #[test]
@@ -47,7 +71,10 @@ fn each_kind_of_call_has_its_targets(rt: HostRuntime) -> Result<(), Fail> {
     let graph = graph_of(&rt, &app)?;
     for (what, (method, index), callees, outside) in ROWS.iter() {
         let method = MethodNo(*method);
-        assert!(rt; are_methods(graph.callees(method, *index), callees), "{what}");
+        assert!(rt;
+            are_methods(graph.callees(method, *index), callees),
+            "{what}"
+        );
         assert_eq!(rt; graph.outside(method, *index), *outside, "{what}");
     }
     Ok(())
@@ -57,7 +84,11 @@ fn each_kind_of_call_has_its_targets(rt: HostRuntime) -> Result<(), Fail> {
 fn reach_follows_chains_of_callees(rt: HostRuntime) -> Result<(), Fail> {
     let app = read_app(&rt, "calls.dex")?;
     let graph = graph_of(&rt, &app)?;
-    for (from, reached) in [(12, [12].as_slice()), (11, &[0, 1, 2, 6, 8, 10, 11]), (1, &[0, 1])] {
+    for (from, reached) in [
+        (12, [12].as_slice()),
+        (11, &[0, 1, 2, 6, 8, 10, 11]),
+        (1, &[0, 1]),
+    ] {
         let Ok(marks) = reach(rt.alloc(), &app, &graph, &[MethodNo(from)]) else {
             return Err("there is memory".into());
         };
