@@ -1,5 +1,5 @@
 -- A component list of a receiver binds to its one callback.
-use Rattle.std.proofs.Common.{◌≡◌, ◌≢◌, ◌<◌, ◌==◌, ◌&&◌, not, ℕ, zero, suc, Bool, true, false, List, [], ◌∷◌, length, slice_get, get_or, bytes_eq, bit_and, codes, position, Option, Some, None, refl, sym, ◌∙◌, ap, ap₂, subst, true≢false, arith, ◌⊎◌, inl, inr, ⊎_elim, eq-eqb}
+use Rattle.std.proofs.Common.{◌≡◌, ◌≢◌, ◌<◌, ℕ, zero, suc, Bool, true, false, List, [], ◌∷◌, length, slice_get, get_or, bytes_eq, bit_and, codes, position, Option, Some, None, refl, sym, ◌∙◌, ap, ap₂, subst, true≢false, arith, ⊎_elim, eq-eqb}
 use Rattle.std.proofs.lemmas.Bool.{cases_lt}
 use Rattle.std.proofs.lemmas.Option.{slice_get-get_or}
 use Rattle.std.proofs.lemmas.Slice.Eq.{bytes_eq-Decides}
@@ -20,10 +20,9 @@ use Rattle.app_model.specs.declared.component.Kind.{Kind}
 use Rattle.app_model.specs.declared.component.Kind.TheVariants.{Receiver}
 use Rattle.app_model.specs.declared.rows.MethodRow.{MethodRow}
 use Rattle.app_model.proofs.Searches.{position_here}
-use Rattle.flow_model.proofs.TestLaws.{both, same_number, none_some}
+use Rattle.flow_model.proofs.TestLaws.{both}
 use Rattle.straight_code.specs.Path.{receiver}
-use Rattle.straight_code.specs.Receiver.{is_callback, is_receiver}
-use Rattle.straight_code.specs.Verdict.{IsSmallApp}
+use Rattle.straight_code.specs.Receiver.{is_receiver}
 use Rattle.straight_code.proofs.Receivers.{IsCallback, callback_of, one_of, same_text, small_of}
 
 -- ---- what is spelled alike has one number

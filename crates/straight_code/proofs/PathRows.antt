@@ -6,7 +6,7 @@ use Rattle.std.proofs.lemmas.Bool.Decides.{nat_tests}
 use Rattle.std.proofs.lemmas.Nat.{mul-le}
 use Rattle.std.proofs.lemmas.Option.{slice_get-get_or}
 use Rattle.std.proofs.lemmas.Grind.{common_steps}
-use Rattle.std.proofs.lemmas.List.{length-append, length-map, length-set, length-replicate, get_or_append_left, get_or-append_right, get_or-map, get_or-replicate}
+use Rattle.std.proofs.lemmas.List.{length-append, length-map, length-replicate, get_or_append_left, get_or-append_right, get_or-map, get_or-replicate}
 use Rattle.ns_base.specs.declared.rows.LockNo.{LockNo}
 use Rattle.ns_base.specs.declared.rows.MethodNo.{MethodNo}
 use Rattle.app_model.specs.declared.lock_use.LockUse.{LockUse}
@@ -23,7 +23,7 @@ use Rattle.app_model.specs.TagTable as table
 use Rattle.app_model.specs.Words.{code_len}
 use Rattle.app_model.proofs.Cells.{tag_again}
 use Rattle.act_model.specs.declared.act.Act.{Act}
-use Rattle.act_model.specs.declared.act.Act.TheVariants.{Go, Test, Copy, TakeResult, Write, Fill, ReadSlot, WriteSlot, Give, Check, Throw, Return, Call}
+use Rattle.act_model.specs.declared.act.Act.TheVariants.{Go, TakeResult, Write, ReadSlot, WriteSlot, Check, Call}
 use Rattle.act_model.specs.declared.act.Gives.{Gives}
 use Rattle.act_model.specs.declared.act.Gives.TheVariants as gives
 use Rattle.act_model.specs.declared.act.Written.{Written}

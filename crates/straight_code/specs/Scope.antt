@@ -1,5 +1,5 @@
 -- The scope rules of threads, escapes, lock calls and two stores, along the path of method 0.
-use Rattle.std.specs.Prelude.{ℕ, ◌≡◌, ◌⊎◌, ◌<◌, Bool, true, false, List, [], ◌∷◌, bytes_eq, Option, Some, codes}
+use Rattle.std.specs.Prelude.{ℕ, ◌≡◌, ◌⊎◌, ◌<◌, Bool, true, false, List, bytes_eq, Option, Some, codes}
 use Rattle.std.specs.List.{list_any}
 use Rattle.app_model.specs.declared.rows.Named.{Named}
 use Rattle.app_model.specs.Ancestors.{IsAncestor}
