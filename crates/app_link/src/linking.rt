@@ -4,7 +4,10 @@ ghost use Rattle.app_model.specs.Words.{IsApp};
 ghost use Rattle.app_link.specs.LinkFaults.{◌or◌, code_fault_from, class_names, duplicate_of, repeat_from};
 ghost use Rattle.app_link.specs.declared.code_checks.CodeWrong.TheVariants.{Missing, Unwanted};
 ghost use Rattle.std.specs.List.{All};
+ghost use Rattle.ns_base.specs.Answers.{limit_of};
+ghost use Rattle.ns_base.specs.declared.answers.Counted.TheVariants.{Sites};
 ghost use Rattle.app_model.specs.Parts.{AppParts};
+ghost use Rattle.app_model.specs.Sites.{sites_below};
 ghost use Rattle.app_model.specs.Sound.{IsSoundApp};
 ghost use Rattle.dex_file.specs.Content.{FileContent};
 ghost use Rattle.dex_file.specs.Reading.{IsContent};
@@ -108,6 +111,7 @@ pub fn link(alloc: Global, files: Vec<DexParts>) -> Result<App, LinkFault>
     requires { AreShort files.items }
     ensures linked { IsLinked files.items result }
     ensures sound { IfOk result IsSoundApp }
+    ensures sites { IfOk result (λ app. sites_below app (length app.methods) ≤ limit_of Sites) }
 {
     let parts = take_parts(alloc, files)?;
     let rows = check_parts(alloc, parts)?;
