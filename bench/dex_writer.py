@@ -194,7 +194,7 @@ def lay_out(ids, classes, settle):
     tables = [ids.texts, ids.types, ids.protos, ids.fields, ids.methods, classes]
     starts, at = [], 112
     for table, width in zip(tables, ID_WIDTHS):
-        starts.append(at)
+        starts.append(at if table else 0)
         at += len(table) * width
     data = Data(at)
     list_at, data_at = put_items(data, ids, classes)
@@ -202,10 +202,10 @@ def lay_out(ids, classes, settle):
     text_at = data.section(STRINGS, [string_data(text) for text in ids.texts], False)
     data.align()
     map_at = data.here()
-    sections = [(0, 1, 0)] + [(kind + 1, len(table), start) for kind, (table, start) in enumerate(zip(tables, starts))]
+    sections = [(0, 1, 0)] + [(kind + 1, len(table), start) for kind, (table, start) in enumerate(zip(tables, starts)) if table]
     sections += data.sections + [(MAP, 1, map_at)]
-    assert len(sections) == MAP_ENTRIES
-    data.bytes += struct.pack("<I", MAP_ENTRIES)
+    assert len(sections) <= MAP_ENTRIES
+    data.bytes += struct.pack("<I", len(sections))
     data.bytes += b"".join(struct.pack("<HHII", kind, 0, count, off) for kind, count, off in sections)
     front = struct.pack("<IIIIII", data.here(), 112, 0x12345678, 0, 0, map_at)
     front += b"".join(struct.pack("<II", len(table), start) for table, start in zip(tables, starts))

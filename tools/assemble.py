@@ -16,8 +16,8 @@ A text has classes with their fields and methods, one item a line; `#` begins a 
 
 FLAG is one of static, private, native, abstract, interface; all else is public. A method that is native or abstract has
 no instructions. `WL` and `PM` stand for the wake lock's class and that of the power manager. `make vC FIELD` makes a wake lock
-with the context in vC and stores it into a static field; `make vC FIELD vO` into a field of the object in vO. The ids of
-classes keep their order; other ids stand in the order of the format.
+with the context in vC and stores it into a static field; `make vC FIELD vO` into a field of the object in vO. `repeat N` stands
+before an instruction that comes N times. Classes keep their order; all ids stand in the order of the format.
 """
 import pathlib
 import re
@@ -93,6 +93,8 @@ def parse(text):
             lines = [spelled(own.format(words[1])).split() for own in MAKE]
             store = ["sput-object", "v0", words[2]] if len(words) == 3 else ["iput-object", f"v0,{words[3]}", words[2]]
             rows[-1][1][-1].lines += lines + [store]
+        elif words[0] == "repeat":
+            rows[-1][1][-1].lines += [words[2:]] * int(words[1])
         else:
             rows[-1][1][-1].lines.append(words)
     return rows

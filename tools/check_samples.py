@@ -1,9 +1,11 @@
 #!/usr/bin/env python3
-"""Checks that the stored sample is what sample_dex.py lays out, and that the tests of nosleep hold the same bytes."""
+"""Checks that the stored sample is what sample_dex.py lays out and the tests of nosleep hold, and that the applications of
+sample_apps are what assemble.py makes of their texts."""
 import pathlib
 import re
 import sys
 
+import assemble
 import sample_dex
 
 top = pathlib.Path(__file__).resolve().parent.parent
@@ -21,3 +23,12 @@ for name, found in (("sample_dex.py", sample_dex.layout(*sample_dex.BODIES["work
     if found != stored:
         sys.exit(f"crates/nosleep/data/receiver.dex differs from what {name} has")
 print("the stored sample is the same in all three places")
+
+data = top / "crates/sample_apps/data"
+texts = sorted(data.glob("*.txt"))
+for text in texts:
+    if assemble.assemble(text.read_text()) != text.with_suffix(".dex").read_bytes():
+        sys.exit(f"{text} differs from the file that was made of it")
+if (data / "receiver.dex").read_bytes() != stored:
+    sys.exit("crates/sample_apps/data/receiver.dex is not the stored sample")
+print(f"{len(texts)} applications are what their texts say")
