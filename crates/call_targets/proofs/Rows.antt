@@ -17,8 +17,11 @@ use Rattle.class_graph.specs.declared.graph.Found.{Found}
 use Rattle.class_graph.specs.declared.graph.Found.TheVariants as variant
 use Rattle.ns_base.specs.declared.rows.MethodNo.{MethodNo}
 use Rattle.class_graph.proofs.Lists.{any_found, any_there, same_test}
-use Rattle.call_targets.proofs.Climb.{any_map}
 use Rattle.call_targets.proofs.Rising.{has, rising_filter, up_increasing}
+
+any_map : {X Y : Type 0} (p : Y → Bool) (f : X → Y) (xs : List X) → list_any p (map f xs) ≡ list_any (λ x. p (f x)) xs
+any_map p f [] = refl
+any_map p f (x ∷ xs) = ap (λ b. p (f x) || b) (any_map p f xs)
 
 -- ---- one more look-up
 found_next : (found : List Found) (i : ℕ) (d : Found) → i < length found → filter_map found_number (take (i + 1) found) ≡ filter_map found_number (take i found) ++ filter_map found_number (get_or found i d ∷ [])
