@@ -1,18 +1,22 @@
 -- What mapped and filtered lists have, and tests that go by that alone.
-use Rattle.std.proofs.Common.{◌≡◌, ℕ, zero, suc, ◌<◌, ◌+◌, Bool, true, false, List, [], ◌∷◌, ◌++◌, length, map, refl, sym, ap, ap₂, ◌∙◌, inl, inr, ⊎_elim, arith, Contains, Option, Some, None, cond}
+use Rattle.std.proofs.Common.{◌≡◌, ℕ, zero, suc, ◌<◌, ◌+◌, ◌||◌, Bool, true, false, List, [], ◌∷◌, ◌++◌, length, map, refl, sym, ap, ap₂, ◌∙◌, inl, inr, ⊎_elim, arith, Contains, Option, Some, None, cond, eqb, eq-eqb, slice_get, subst}
 use Rattle.std.specs.Prelude.{◌⊎◌, ◌↔◌, filter_map, is_none}
 use Rattle.std.specs.List.{cons_option, filter, list_any, range_with_len}
+use Rattle.std.specs.List.Sorted.{IsPermutation}
 use Rattle.std.proofs.lemmas.List.{get_or-map, length-map}
+use Rattle.std.proofs.lemmas.Bool.{eqb-true, false≢true}
 use Rattle.std.proofs.lemmas.List.Elements.{filter_agree}
+use Rattle.std.proofs.lemmas.List.Sorted.{list_any-IsPermutation}
+use Rattle.std.proofs.lemmas.Option.{same_Some}
 use Rattle.app_model.specs.CallGraph.{TargetParts}
 use Rattle.app_model.specs.Targets.{finds, is_method, method_no, row_of}
 use Rattle.class_graph.proofs.Lists.{any_found, any_there, same_test}
 
-cons_cases : {X : Type 0} (y : X) (xs : List X) (x : X) → Contains (y ∷ xs) x → (y ≡ x) ⊎ Contains xs x
+pub cons_cases : {X : Type 0} (y : X) (xs : List X) (x : X) → Contains (y ∷ xs) x → (y ≡ x) ⊎ Contains xs x
 cons_cases y xs x (zero, lt, e) = inl e
 cons_cases y xs x (suc k, lt, e) = inr (k, omega (arith, lt), e)
 
-in_rest : {X : Type 0} (y : X) (xs : List X) (x : X) → Contains xs x → Contains (y ∷ xs) x
+pub in_rest : {X : Type 0} (y : X) (xs : List X) (x : X) → Contains xs x → Contains (y ∷ xs) x
 in_rest y xs x (k, lt, e) = (suc k, omega (arith, lt), e)
 
 pub in_first : {X : Type 0} (x : X) (xs : List X) → Contains (x ∷ xs) x
@@ -63,7 +67,41 @@ from_filter p (y ∷ xs) x c = by (p y) refl (λ r. let s = from_filter p xs x r
     by true e later r = ⊎_elim (λ same. rw (← same) (in_first y xs, e)) later (cons_cases y (filter p xs) x r)
     by false e later r = later r
 
+pub any_mapped : {X Y : Type 0} (p : Y → Bool) (f : X → Y) (xs : List X) → list_any p (map f xs) ≡ list_any (λ x. p (f x)) xs
+any_mapped p f [] = refl
+any_mapped p f (x ∷ xs) = ap (λ b. p (f x) || b) (any_mapped p f xs)
+
+-- a list in another order
+pub moved : (xs ys : List ℕ) → IsPermutation xs ys → (k : ℕ) → Contains xs k ↔ Contains ys k
+moved xs ys perm k = (has xs ys (list_any-IsPermutation (eqb k) xs ys perm), has ys xs (sym (list_any-IsPermutation (eqb k) xs ys perm)))
+  where
+    has : (ms ns : List ℕ) → list_any (eqb k) ms ≡ list_any (eqb k) ns → Contains ms k → Contains ns k
+    has ms ns e c = let f = any_found (eqb k) ns (sym e ∙ any_there (eqb k) ms k c (eq-eqb k k refl)) in subst (Contains ns) (sym (eqb-true k f.0 f.2)) f.1
+
+-- ---- a list that grew by one
+pub get_front : {X : Type 0} (xs : List X) (x : X) (s : ℕ) (y : X) → slice_get xs s ≡ Some y → slice_get (xs ++ x ∷ []) s ≡ Some y
+get_front [] x s y e = absurd (cc)
+get_front (z ∷ xs) x zero y e = e
+get_front (z ∷ xs) x (suc s) y e = get_front xs x s y e
+
+pub get_last : {X : Type 0} (xs : List X) (x : X) → slice_get (xs ++ x ∷ []) (length xs) ≡ Some x
+get_last [] x = refl
+get_last (y ∷ xs) x = get_last xs x
+
+pub get_grown : {X : Type 0} (xs : List X) (x : X) (s : ℕ) (y : X) → slice_get (xs ++ x ∷ []) s ≡ Some y → (slice_get xs s ≡ Some y) ⊎ ((s ≡ length xs) × (x ≡ y))
+get_grown [] x zero y e = inr (refl, same_Some x y e)
+get_grown [] x (suc s) y e = absurd (cc)
+get_grown (z ∷ xs) x zero y e = inl e
+get_grown (z ∷ xs) x (suc s) y e = ⊎_elim (λ l. inl l) (λ r. inr (ap suc r.0, r.1)) (get_grown xs x s y e)
+
 -- ---- rows of the same finds
+is_that : (n : ℕ) (o : Option ℕ) → is_method n o ≡ true → o ≡ Some n
+is_that n None e = absurd (false≢true e)
+is_that n (Some k) e = ap Some (eqb-true k n e)
+
+pub finds_in : (xs : List (Option ℕ)) (n : ℕ) → (finds xs n ≡ true) ↔ Contains xs (Some n)
+finds_in xs n = (λ e. let f = any_found (is_method n) xs e in subst (Contains xs) (is_that n f.0 f.2) f.1, λ c. any_there (is_method n) xs (Some n) c (eq-eqb n n refl))
+
 abbrev pub HaveSame : List (Option ℕ) → List (Option ℕ) → Type 0
 HaveSame xs ys = (o : Option ℕ) → Contains xs o ↔ Contains ys o
 

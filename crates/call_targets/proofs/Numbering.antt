@@ -16,19 +16,12 @@ use Rattle.call_targets.specs.declared.sources.Source.{Source}
 use Rattle.call_targets.proofs.Keys.{key_same, one_caller, one_key, same_calls}
 
 -- ---- sources that are the same
-abbrev make : (one below : Option ℕ) → (name proto : ℕ) → Source
-make one below name proto = record { one = one; below = below; name = name; proto = proto }
-
 one_source : (a b : Source) → same_source a b ≡ true → a ≡ b
 one_source a b e =
     let one = and_parts _ _ e in
     let below = and_parts _ _ one.1 in
     let named = and_parts _ _ below.1 in
-    let o : a.one ≡ b.one = one_caller a.one b.one one.0 in
-    let t : a.below ≡ b.below = one_caller a.below b.below below.0 in
-    let n : a.name ≡ b.name = eqb-true a.name b.name named.0 in
-    let p : a.proto ≡ b.proto = eqb-true a.proto b.proto named.1 in
-    ap (λ x. make x a.below a.name a.proto) o ∙ ap (λ x. make b.one x a.name a.proto) t ∙ ap (λ x. make b.one b.below x a.proto) n ∙ ap (λ x. make b.one b.below b.name x) p
+    rw (one_caller a.one b.one one.0) (rw (one_caller a.below b.below below.0) (rw (eqb-true a.name b.name named.0) (rw (eqb-true a.proto b.proto named.1) refl)))
 
 from_zero : (n : ℕ) → 0 + n ≡ n
 from_zero n = omega arith

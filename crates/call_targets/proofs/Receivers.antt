@@ -14,7 +14,7 @@ use Rattle.app_model.specs.Targets.{found_of, found_virtually, finds, is_method,
 use Rattle.class_graph.proofs.Lists.{any_found, any_there}
 use Rattle.call_targets.specs.Laws.{CallLaw, Receives, TellsCalls}
 use Rattle.call_targets.specs.Looking.{begins, begins_at}
-use Rattle.call_targets.proofs.Members.{from_filter, from_map, in_filter, in_first, in_map}
+use Rattle.call_targets.proofs.Members.{finds_in, from_filter, from_map, in_filter, in_first, in_map}
 
 pub begun : (k o : Option ℕ) → Contains (begins_at k) o ↔ ((k ≡ None) × (o ≡ None))
 begun None o = (λ c. (refl, one c), λ e. rw e.1 (in_first None []))
@@ -79,16 +79,8 @@ module _ (app : AppParts) (m : ℕ) (named : Named) where
     λ h. any_there is_none found None ((found_told None).1 (⊎_elim (λ l. inl (l, refl)) (λ r. inr r) h)) refl,
   )
 
-  is_that : (n : ℕ) (x : Option ℕ) → is_method n x ≡ true → x ≡ Some n
-  is_that n None e = absurd (false≢true e)
-  is_that n (Some k) e = ap Some (eqb-true k n e)
-
   finds_told : (n : ℕ) → (finds found n ≡ true) ↔ Receives app named (Some n)
-  finds_told n = (
-    λ e. let f = any_found (is_method n) found e in
-        ⊎_elim (λ l. absurd (cc l.1)) (λ r. r) ((found_told (Some n)).0 (subst (Contains found) (is_that n f.0 f.2) f.1)),
-    λ r. any_there (is_method n) found (Some n) ((found_told (Some n)).1 (inr r)) (eq-eqb n n refl),
-  )
+  finds_told n = (λ e. ⊎_elim (λ l. absurd (cc l.1)) (λ r. r) ((found_told (Some n)).0 ((finds_in found n).0 e)), λ r. (finds_in found n).1 ((found_told (Some n)).1 (inr r)))
 
   abbrev numbers : List ℕ
   numbers = range_with_len 0 (length app.methods)

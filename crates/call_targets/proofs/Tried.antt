@@ -3,7 +3,7 @@ use Rattle.std.proofs.Common.{◌≡◌, ℕ, zero, suc, ◌+◌, ◌<◌, Bool,
 use Rattle.std.specs.Prelude.{is_none}
 use Rattle.std.specs.List.{All}
 use Rattle.std.proofs.lemmas.Bool.{false≢true}
-use Rattle.std.proofs.lemmas.List.{map-append, take_all, take_more}
+use Rattle.std.proofs.lemmas.List.{map-append, map_push, take_all, take_more}
 use Rattle.std.proofs.lemmas.List.Elements.{All-nil, All-push, Contains-append_left, Contains-append_right, Contains-get_or}
 use Rattle.std.proofs.lemmas.Option.{slice_get_within}
 use Rattle.ns_base.specs.declared.rows.ClassNo.{ClassNo}
@@ -21,7 +21,6 @@ use Rattle.call_targets.proofs.Downward.{read_at, take_has}
 use Rattle.call_targets.proofs.Members.{row_same}
 use Rattle.call_targets.proofs.Receivers.{look_within}
 use Rattle.call_targets.proofs.Roots.{candidates_in}
-use Rattle.call_targets.proofs.Uses.{map_end}
 
 abbrev pub IsWithin : AppParts → Found → Type 0
 IsWithin app f = IfSome (found_number f) (λ n. n < length app.methods)
@@ -39,7 +38,7 @@ module _ (app : AppParts) (name proto : ℕ) (f : Found) (c : ClassNo) (within :
 
   pub found_next : (numbers : List (Option ℕ)) (found : List Found) → AreFound app numbers found → AreFound app (numbers ++ look_at app name proto c ∷ []) (found ++ f ∷ [])
   found_next numbers found before = record {
-    is = map_end found_number found f ∙ ap₂ (λ (ns : List (Option ℕ)) (n : Option ℕ). ns ++ n ∷ []) before.is found_at;
+    is = map_push found_number found f ∙ ap₂ (λ (ns : List (Option ℕ)) (n : Option ℕ). ns ++ n ∷ []) before.is found_at;
     each = All-push (IsWithin app) found f before.each (let row = read_at app.classes c.0 within in rw (told row.0 row.1) (look_within app row.0.name.0 name proto));
   }
 
@@ -47,7 +46,7 @@ pub found_more : (app : AppParts) (name proto : ℕ) (numbers : List (Option ℕ
     → AreFound app ((numbers ++ map (look_at app name proto) (take i tried)) ++ look_at app name proto (get_or tried i d) ∷ []) found → AreFound app (numbers ++ map (look_at app name proto) (take (i + 1) tried)) found
 found_more app name proto numbers tried i found d lt are = subst (λ ns. AreFound app ns found)
     (append_assoc numbers (map (look_at app name proto) (take i tried)) (look_at app name proto (get_or tried i d) ∷ [])
-    ∙ ap (λ ns. numbers ++ ns) (sym (map_end (look_at app name proto) (take i tried) (get_or tried i d)) ∙ ap (map (look_at app name proto)) (sym (take_more tried i d lt)))) are
+    ∙ ap (λ ns. numbers ++ ns) (sym (map_push (look_at app name proto) (take i tried) (get_or tried i d)) ∙ ap (map (look_at app name proto)) (sym (take_more tried i d lt)))) are
 
 pub ends_outside : (app : AppParts) (name proto : ℕ) (tops : List ClassNo) (i : ℕ) (d : ClassNo) → i < length tops → is_none (look_at app name proto (get_or tops i d)) ≡ true → EndsOutside app name proto (take (i + 1) tops)
 ends_outside app name proto tops i d lt e = record { class = get_or tops i d; there = (take_has tops i d (get_or tops i d) lt).1 (inr refl); finds = by (look_at app name proto (get_or tops i d)) e }
