@@ -5,7 +5,6 @@ use Rattle.std.specs.List.{All, list_any, range_with_len}
 use Rattle.std.proofs.lemmas.Bool.{and_parts, cases_Bool, cases_lt, eqb-true, false≢true, or_cases, or_left, or_right}
 use Rattle.std.proofs.lemmas.List.{get_or-map, get_or-replicate, get_or-set_other, get_or-set_same, get_or_past, length-map, length-replicate, length-set, map-set, take_more}
 use Rattle.std.proofs.lemmas.List.Elements.{All-contains, Contains-append_left, Contains-get_or, Contains-push, Contains-push_cases}
-use Rattle.std.proofs.lemmas.List.FromFn.{get_or-range_with_len, length-range_with_len}
 use Rattle.std.proofs.lemmas.Option.{get_or_from_slice_get, slice_get-get_or, slice_get_cases, slice_get_within}
 use Rattle.std.specs.declared.alloc.Global.{Global}
 use Rattle.std.specs.declared.vec.Vec.{Vec}
@@ -18,6 +17,8 @@ use Rattle.app_model.proofs.HierarchyLaws.{subtypes_told}
 use Rattle.class_graph.specs.Walks.{has_kind, met, met_all}
 use Rattle.class_graph.proofs.Lists.{any_found, any_there, kind_told, read_of, same_test, told_kind}
 use Rattle.class_graph.proofs.Meets.{Grown, grown_all, grown_met, has_all, has_met, kept}
+use Rattle.call_targets.proofs.Look.{may_itself}
+use Rattle.call_targets.proofs.Members.{from_range, in_range, is_nothing}
 use Rattle.call_targets.specs.Below.{AreChildren, IsChild, IsWalked, Puts, TellsBelow, may_be, right_below}
 
 abbrev type_no : ℕ → TypeNo
@@ -151,21 +152,15 @@ module _ (app : AppParts) (sound : IsSoundApp app) (kind : ℕ) where
       subst (λ (u : TypeNo). u.0 < length app.types) child.named (All-contains (IsClassRow app) app.classes child.class sound.ranges.classes child.there).name
 
   -- ---- where a walk begins
-  itself : May kind
-  unfolding may_be_sub
-  itself = or_left (is_sub app kind kind) _ ((subtypes_told app sound.ranges kind kind).1 (inl refl))
-
   may_unknown : (t : ℕ) → class_of_type app.classes kind ≡ None → t < length app.types → is_unknown app t ≡ true → May t
   unfolding may_be_sub has_unknown_above
   may_unknown t out lt e =
-      let len = length-range_with_len 0 (length app.types) in
-      or_right (is_sub app t kind) _ (rw out (any_there (λ v. is_sub app t v && is_unknown app v) (range_with_len 0 (length app.types)) t
-      (t, omega (arith, lt, len), get_or-range_with_len 0 (length app.types) t t lt ∙ omega arith) (rw ((subtypes_told app sound.ranges t t).1 (inl refl)) e)))
+      or_right (is_sub app t kind) _ (rw out (any_there (λ v. is_sub app t v && is_unknown app v) (range_with_len 0 (length app.types)) t (in_range (length app.types) t lt) (rw ((subtypes_told app sound.ranges t t).1 (inl refl)) e)))
 
   pub walked_start : IsWalked app kind 0 0 (met [] (type_no kind))
   walked_start = record {
     starts = λ t s. ⊎_elim (λ same. rw same (has_met [] (type_no kind))) (λ h. absurd (omega (arith, h.1))) s;
-    only = λ u h. ⊎_elim (λ o. absurd (false≢true o)) (λ m. m) ((grown_met [] (type_no kind) May itself).only u h);
+    only = λ u h. ⊎_elim (λ o. absurd (false≢true o)) (λ m. m) ((grown_met [] (type_no kind) May (may_itself app kind)).only u h);
     down = λ k t u lt. absurd (omega (arith, lt));
   }
 
@@ -245,17 +240,8 @@ module _ (app : AppParts) (sound : IsSoundApp app) (kind : ℕ) where
         (λ h. let parts = and_parts (is_none (class_of_type app.classes kind)) _ h in
         let f = any_found (λ v. is_sub app t v && is_unknown app v) (range_with_len 0 (length app.types)) parts.1 in
         let both = and_parts _ _ f.2 in
-        met_above t f.0 both.0 (w.starts f.0 (inr (outside (class_of_type app.classes kind) parts.0, within f.0 f.1, both.1))))
+        met_above t f.0 both.0 (w.starts f.0 (inr (is_nothing (class_of_type app.classes kind) parts.0, from_range (length app.types) f.0 f.1, both.1))))
         (or_cases (is_sub app t kind) _ e)
-      where
-        outside : (o : Option ℕ) → is_none o ≡ true → o ≡ None
-        outside None g = refl
-        outside (Some c) g = absurd (false≢true g)
-
-        within : (v : ℕ) → Contains (range_with_len 0 (length app.types)) v → v < length app.types
-        within v (k, lt, g) =
-            let below : k < length app.types = omega (arith, lt, length-range_with_len 0 (length app.types)) in
-            omega (arith, below, g, get_or-range_with_len 0 (length app.types) k v below)
 
     pub walked_tells : TellsBelow app kind kinds
     walked_tells class there = same_test (has_kind kinds class.name.0) (may_be app kind class) (w.only class.name.0) (may_met class.name.0)

@@ -6,8 +6,7 @@ use Rattle.std.specs.declared.alloc.Global.{Global}
 use Rattle.std.specs.declared.vec.Vec.{Vec}
 use Rattle.std.proofs.lemmas.Bool.{and_parts, eqb-true, false≢true, or_cases, or_left, or_right}
 use Rattle.std.proofs.lemmas.List.Elements.{filter_agree}
-use Rattle.std.proofs.lemmas.List.Folds.{list_any-append, list_any_at}
-use Rattle.std.proofs.lemmas.List.FromFn.{get_or-range_with_len, length-range_with_len}
+use Rattle.std.proofs.lemmas.List.Folds.{list_any-append}
 use Rattle.std.proofs.lemmas.List.Quantifiers.{position-Some}
 use Rattle.std.proofs.lemmas.Option.{slice_get-get_or}
 use Rattle.ns_base.specs.declared.rows.ClassNo.{ClassNo}
@@ -29,7 +28,7 @@ use Rattle.call_targets.specs.declared.sources.Source.{Source}
 use Rattle.call_targets.specs.Looking.{begins, begins_at}
 use Rattle.call_targets.specs.Laws.{Receives}
 use Rattle.call_targets.proofs.Receivers.{begun, found_told}
-use Rattle.call_targets.proofs.Members.{row_same}
+use Rattle.call_targets.proofs.Members.{in_range, row_same}
 
 -- ---- rows
 pub foreign_row : (app : AppParts) (m op : ℕ) (named : Named) (source : Source) → is_foreign app op named ≡ true → found_from app source ≡ None ∷ [] → row_from app source ≡ targets_of_call app m op named
@@ -77,9 +76,9 @@ declared_at app lists all name proto c n e =
     same : (k : ClassNo) (c : ℕ) → k.0 ≡ c → ◌≡◌ {A = ClassNo} k (class_no c)
     same k c e = rw (← e) refl
 
-may_itself : (app : AppParts) (kind : ℕ) (class : ClassParts) → class.name.0 ≡ kind → may_be app kind class ≡ true
+pub may_itself : (app : AppParts) (t : ℕ) → may_be_sub app (Some t) t ≡ true
 unfolding may_be_sub is_sub
-may_itself app kind class e = or_left _ _ (or_left _ _ (eq-eqb class.name.0 kind e))
+may_itself app t = or_left _ _ (or_left _ _ (eq-eqb t t refl))
 
 module _ (app : AppParts) (lists : List (Signature × Vec ClassNo Global)) (all : AreDeclared app (length app.methods) lists) (sound : IsSoundApp app) where
   module _ (named : Named) (none : classes_with lists named.name.0 named.proto.0 ≡ None) where
@@ -102,7 +101,7 @@ module _ (app : AppParts) (lists : List (Signature × Vec ClassNo Global)) (all 
         from None e = inl (e, refl)
         from (Some k) e =
             let found = class_found app.classes named.class.0 k e in
-            inr (record { class = found.0; there = there_at app.classes k found.0 found.1; may = may_itself app named.class.0 found.0 found.2; finds = look_undeclared found.0.name.0 })
+            inr (record { class = found.0; there = there_at app.classes k found.0 found.1; may = subst (λ t. may_be_sub app (Some t) named.class.0 ≡ true) (sym found.2) (may_itself app named.class.0); finds = look_undeclared found.0.name.0 })
 
         forth : (o : Option ℕ) → Contains (None ∷ []) o → Contains (found_virtually app m named) o
         forth o h = let e = ((begun None o).0 h).1 in rw e ((found_told app m named None).1 (from (class_of_type app.classes named.class.0) refl))
@@ -118,9 +117,7 @@ may_unknown app t k lt e = same_test _ _ forth back
     forth : (is_sub app t k || (is_none (class_of_type app.classes k) && has_unknown_above app t)) ≡ true → list_any (λ u. is_sub app t u && is_unknown app u) (range_with_len 0 (length app.types)) ≡ true
     forth h = ⊎_elim
         (λ (s : is_sub app t k ≡ true).
-        let place : get_or (range_with_len 0 (length app.types)) k 0 ≡ k = get_or-range_with_len 0 (length app.types) k 0 lt ∙ omega arith in
-        let test = λ (u : ℕ). is_sub app t u && is_unknown app u in
-        list_any_at test (range_with_len 0 (length app.types)) k 0 (rw (length-range_with_len 0 (length app.types)) lt) (ap test place ∙ ap (λ b. b && is_unknown app k) s ∙ e))
+        any_there (λ u. is_sub app t u && is_unknown app u) (range_with_len 0 (length app.types)) k (in_range (length app.types) k lt) (ap (λ b. b && is_unknown app k) s ∙ e))
         (λ s. (and_parts _ _ s).1)
         (or_cases (is_sub app t k) (is_none (class_of_type app.classes k) && has_unknown_above app t) h)
 

@@ -6,6 +6,7 @@ use Rattle.std.specs.List.Sorted.{IsPermutation}
 use Rattle.std.proofs.lemmas.List.{get_or-map, length-map}
 use Rattle.std.proofs.lemmas.Bool.{eqb-true, false≢true}
 use Rattle.std.proofs.lemmas.List.Elements.{filter_agree}
+use Rattle.std.proofs.lemmas.List.FromFn.{get_or-range_with_len, length-range_with_len}
 use Rattle.std.proofs.lemmas.List.Sorted.{list_any-IsPermutation}
 use Rattle.std.proofs.lemmas.Option.{same_Some}
 use Rattle.app_model.specs.CallGraph.{TargetParts}
@@ -70,6 +71,17 @@ from_filter p (y ∷ xs) x c = by (p y) refl (λ r. let s = from_filter p xs x r
 pub any_mapped : {X Y : Type 0} (p : Y → Bool) (f : X → Y) (xs : List X) → list_any p (map f xs) ≡ list_any (λ x. p (f x)) xs
 any_mapped p f [] = refl
 any_mapped p f (x ∷ xs) = ap (λ b. p (f x) || b) (any_mapped p f xs)
+
+pub is_nothing : {X : Type 0} (o : Option X) → is_none o ≡ true → o ≡ None
+is_nothing None e = refl
+is_nothing (Some x) e = absurd (false≢true e)
+
+-- ---- the first n numbers
+pub in_range : (n k : ℕ) → k < n → Contains (range_with_len 0 n) k
+in_range n k lt = (k, omega (arith, lt, length-range_with_len 0 n), get_or-range_with_len 0 n k k lt ∙ omega arith)
+
+pub from_range : (n k : ℕ) → Contains (range_with_len 0 n) k → k < n
+from_range n k (i, lt, e) = let below : i < n = omega (arith, lt, length-range_with_len 0 n) in omega (arith, below, e, get_or-range_with_len 0 n i k below)
 
 -- a list in another order
 pub moved : (xs ys : List ℕ) → IsPermutation xs ys → (k : ℕ) → Contains xs k ↔ Contains ys k

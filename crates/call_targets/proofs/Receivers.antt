@@ -4,7 +4,6 @@ use Rattle.std.specs.Prelude.{◌⊎◌, ◌↔◌, is_none}
 use Rattle.std.specs.List.{filter, list_any, range_with_len}
 use Rattle.std.proofs.lemmas.Bool.{eqb-true, false≢true}
 use Rattle.std.proofs.lemmas.List.Elements.{Contains-append_cases, Contains-append_left, Contains-append_right}
-use Rattle.std.proofs.lemmas.List.FromFn.{get_or-range_with_len, length-range_with_len}
 use Rattle.std.proofs.lemmas.List.Quantifiers.{position-Some}
 use Rattle.ns_base.specs.declared.rows.MethodNo.{MethodNo}
 use Rattle.app_model.specs.declared.rows.Named.{Named}
@@ -14,7 +13,7 @@ use Rattle.app_model.specs.Targets.{found_of, found_virtually, finds, is_method,
 use Rattle.class_graph.proofs.Lists.{any_found, any_there}
 use Rattle.call_targets.specs.Laws.{CallLaw, Receives, TellsCalls}
 use Rattle.call_targets.specs.Looking.{begins, begins_at}
-use Rattle.call_targets.proofs.Members.{finds_in, from_filter, from_map, in_filter, in_first, in_map}
+use Rattle.call_targets.proofs.Members.{finds_in, from_filter, from_map, in_filter, in_first, in_map, in_range, is_nothing}
 
 pub begun : (k o : Option ℕ) → Contains (begins_at k) o ↔ ((k ≡ None) × (o ≡ None))
 begun None o = (λ c. (refl, one c), λ e. rw e.1 (in_first None []))
@@ -68,14 +67,10 @@ module _ (app : AppParts) (m : ℕ) (named : Named) where
           (subst (Contains (map own (filter (may_receive app named) app.classes))) r.finds (in_map own _ r.class (in_filter (may_receive app named) app.classes r.class r.there r.may)))
 
   -- ---- the outside, and a method
-  is_outside : (x : Option ℕ) → is_none x ≡ true → x ≡ None
-  is_outside None e = refl
-  is_outside (Some n) e = absurd (false≢true e)
-
   outside_told : (list_any is_none found ≡ true) ↔ ((class_of_type app.classes named.class.0 ≡ None) ⊎ Receives app named None)
   outside_told = (
     λ e. let f = any_found is_none found e in
-        ⊎_elim (λ l. inl l.0) (λ r. inr r) ((found_told None).0 (subst (Contains found) (is_outside f.0 f.2) f.1)),
+        ⊎_elim (λ l. inl l.0) (λ r. inr r) ((found_told None).0 (subst (Contains found) (is_nothing f.0 f.2) f.1)),
     λ h. any_there is_none found None ((found_told None).1 (⊎_elim (λ l. inl (l, refl)) (λ r. inr r) h)) refl,
   )
 
@@ -96,8 +91,7 @@ module _ (app : AppParts) (m : ℕ) (named : Named) where
       back : Receives app named (Some n) → Contains (map method_no (filter (finds found) numbers)) (method_no n)
       back r =
           let lt : n < length app.methods = subst (λ (o : Option ℕ). IfSome o (λ k. k < length app.methods)) r.finds (look_within app r.class.name.0 named.name.0 named.proto.0) in
-          let len = length-range_with_len 0 (length app.methods) in
-          in_map method_no _ n (in_filter (finds found) numbers n (n, omega (arith, lt, len), get_or-range_with_len 0 (length app.methods) n n lt ∙ omega arith) ((finds_told n).1 r))
+          in_map method_no _ n (in_filter (finds found) numbers n (in_range (length app.methods) n lt) ((finds_told n).1 r))
 
   row_told : (op : ℕ) → targets_of_call app m op named ≡ row_of (length app.methods) found → TellsCalls app m op named
   unfolding row_of

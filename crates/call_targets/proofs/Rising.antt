@@ -3,8 +3,7 @@ use Rattle.std.proofs.Common.{◌≡◌, ℕ, zero, suc, ◌+◌, ◌<◌, ◌�
 use Rattle.std.specs.Prelude.{◌↔◌}
 use Rattle.std.specs.List.{filter, range_with_len}
 use Rattle.std.specs.List.Sorted.{IsStrictlyIncreasing}
-use Rattle.std.proofs.lemmas.List.FromFn.{get_or-range_with_len, length-range_with_len}
-use Rattle.call_targets.proofs.Members.{cons_cases, from_filter, in_filter, in_first, in_rest}
+use Rattle.call_targets.proofs.Members.{cons_cases, from_filter, in_filter, in_first, in_range, in_rest}
 
 -- numbers from lo on, rising
 abbrev Up : (lo : ℕ) → List ℕ → Type 0
@@ -44,5 +43,5 @@ up_from lo (x ∷ xs) le h = (le (omega arith), up_from (x + 1) xs (λ lt. omega
 -- a list that rises is a filter of a range
 pub rising_filter : (p : ℕ → Bool) (n : ℕ) (xs : List ℕ) → IsStrictlyIncreasing xs → ((k : ℕ) → Contains xs k ↔ (p k ≡ true)) → ((k : ℕ) → p k ≡ true → k < n) → xs ≡ filter p (range_with_len 0 n)
 rising_filter p n xs up h below = same_up 0 xs (filter p (range_with_len 0 n)) (up_from 0 xs (λ lt. omega arith) (λ k lt. let e : suc k ≡ k + 1 = omega arith in rw e (up k (omega (arith, lt))))) (up_filter p n 0)
-    (λ k. (λ c. let on = (h k).0 c in in_filter p (range_with_len 0 n) k (k, omega (arith, below k on, length-range_with_len 0 n), get_or-range_with_len 0 n k k (below k on) ∙ omega arith) on,
+    (λ k. (λ c. let on = (h k).0 c in in_filter p (range_with_len 0 n) k (in_range n k (below k on)) on,
     λ c. (h k).1 (from_filter p (range_with_len 0 n) k c).1))

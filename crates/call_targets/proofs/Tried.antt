@@ -2,7 +2,6 @@
 use Rattle.std.proofs.Common.{◌≡◌, ℕ, zero, suc, ◌+◌, ◌<◌, Bool, true, false, List, [], ◌∷◌, ◌++◌, length, map, refl, sym, ap, ap₂, ◌∙◌, inl, inr, arith, get_or, take, Contains, Option, Some, None, IfSome, slice_get, subst, append_assoc}
 use Rattle.std.specs.Prelude.{is_none}
 use Rattle.std.specs.List.{All}
-use Rattle.std.proofs.lemmas.Bool.{false≢true}
 use Rattle.std.proofs.lemmas.List.{map-append, map_push, take_all, take_more}
 use Rattle.std.proofs.lemmas.List.Elements.{All-nil, All-push, Contains-append_left, Contains-append_right, Contains-get_or}
 use Rattle.std.proofs.lemmas.Option.{slice_get_within}
@@ -18,7 +17,7 @@ use Rattle.call_targets.specs.Looking.{AreCandidates, AreEnough, AreFound, EndsO
 use Rattle.call_targets.specs.Sources.{named_parts}
 use Rattle.call_targets.proofs.Climb.{candidates_tell}
 use Rattle.call_targets.proofs.Downward.{read_at, take_has}
-use Rattle.call_targets.proofs.Members.{row_same}
+use Rattle.call_targets.proofs.Members.{is_nothing, row_same}
 use Rattle.call_targets.proofs.Receivers.{look_within}
 use Rattle.call_targets.proofs.Roots.{candidates_in}
 
@@ -49,11 +48,7 @@ found_more app name proto numbers tried i found d lt are = subst (λ ns. AreFoun
     ∙ ap (λ ns. numbers ++ ns) (sym (map_push (look_at app name proto) (take i tried) (get_or tried i d)) ∙ ap (map (look_at app name proto)) (sym (take_more tried i d lt)))) are
 
 pub ends_outside : (app : AppParts) (name proto : ℕ) (tops : List ClassNo) (i : ℕ) (d : ClassNo) → i < length tops → is_none (look_at app name proto (get_or tops i d)) ≡ true → EndsOutside app name proto (take (i + 1) tops)
-ends_outside app name proto tops i d lt e = record { class = get_or tops i d; there = (take_has tops i d (get_or tops i d) lt).1 (inr refl); finds = by (look_at app name proto (get_or tops i d)) e }
-  where
-    by : (o : Option ℕ) → is_none o ≡ true → o ≡ None
-    by None f = refl
-    by (Some k) f = absurd (false≢true f)
+ends_outside app name proto tops i d lt e = record { class = get_or tops i d; there = (take_has tops i d (get_or tops i d) lt).1 (inr refl); finds = is_nothing (look_at app name proto (get_or tops i d)) e }
 
 -- ---- the classes that are tried
 module _ (app : AppParts) (sound : IsSoundApp app) (kind : ℕ) (asked : MakerParts) (ready : IsAsked app kind asked) (name proto : ℕ) where
