@@ -1,5 +1,5 @@
 -- What a look-up finds in any class that a receiver may have, it finds in one of the candidates.
-use Rattle.std.proofs.Common.{◌≡◌, ℕ, zero, suc, ◌≤◌, List, [], ◌∷◌, ◌++◌, length, map, refl, sym, ap, ap₂, ◌∙◌, inl, inr, ⊎_elim, arith, Contains, Option, Some, None, slice_get, subst}
+use Rattle.std.proofs.Common.{◌≡◌, ℕ, zero, suc, ◌≤◌, List, ◌++◌, length, map, refl, sym, ap, ap₂, ◌∙◌, inl, inr, ⊎_elim, arith, Contains, Option, Some, None, slice_get, subst}
 use Rattle.std.specs.Prelude.{◌⊎◌}
 use Rattle.std.proofs.lemmas.Bool.{cases_Bool, false≢true}
 use Rattle.std.proofs.lemmas.List.Elements.{Contains-append_cases, Contains-append_left, Contains-append_right}
@@ -12,7 +12,6 @@ use Rattle.app_model.specs.Targets.{found_virtually}
 use Rattle.class_graph.proofs.Climbs.{enough, no_line, step_up}
 use Rattle.class_graph.proofs.Lists.{class_found, class_known, read_of, there_at}
 use Rattle.call_targets.specs.Below.{IsBelow, class_no, may_be}
-use Rattle.call_targets.specs.Laws.{Receives}
 use Rattle.call_targets.specs.Looking.{AreCandidates, begins, look_at, look_in}
 use Rattle.call_targets.specs.Sources.{named_parts}
 use Rattle.call_targets.proofs.Receivers.{begun, found_told}

@@ -1,31 +1,28 @@
 -- What a source finds is what the call can call.
-use Rattle.std.proofs.Common.{◌≡◌, ℕ, ◌<◌, ◌||◌, ◌&&◌, Bool, true, false, List, [], ◌∷◌, ◌++◌, length, map, refl, sym, ap, ap₂, ◌∙◌, inl, inr, ⊎_elim, arith, eq-eqb, Contains, Option, Some, None, is_some, option_map, get_or, subst}
+use Rattle.std.proofs.Common.{◌≡◌, ℕ, ◌<◌, ◌||◌, ◌&&◌, Bool, true, false, List, [], ◌∷◌, ◌++◌, length, map, refl, sym, ap, ap₂, ◌∙◌, inl, inr, ⊎_elim, eq-eqb, Contains, Option, Some, None, is_some, option_map, get_or, subst}
 use Rattle.std.specs.Prelude.{◌⊎◌, if◌then◌else◌, is_none, not}
-use Rattle.std.specs.List.{filter, list_any, range_with_len}
+use Rattle.std.specs.List.{list_any, range_with_len}
 use Rattle.std.specs.declared.alloc.Global.{Global}
 use Rattle.std.specs.declared.vec.Vec.{Vec}
 use Rattle.std.proofs.lemmas.Bool.{and_parts, eqb-true, false≢true, or_cases, or_left, or_right}
 use Rattle.std.proofs.lemmas.List.Elements.{filter_agree}
-use Rattle.std.proofs.lemmas.List.Folds.{list_any-append}
 use Rattle.std.proofs.lemmas.List.Quantifiers.{position-Some}
 use Rattle.std.proofs.lemmas.Option.{slice_get-get_or}
 use Rattle.ns_base.specs.declared.rows.ClassNo.{ClassNo}
 use Rattle.app_model.specs.declared.calls.By.{By}
 use Rattle.app_model.specs.declared.rows.MethodRow.{MethodRow}
 use Rattle.app_model.specs.declared.rows.Named.{Named}
-use Rattle.app_model.specs.CallGraph.{TargetParts}
 use Rattle.app_model.specs.Hierarchy.{class_of_type, has_unknown_above, is_sub, is_unknown, line, line_of, lookup_of, may_be_sub, method_in, nearest, or_else}
 use Rattle.app_model.specs.Parts.{AppParts, ClassParts}
 use Rattle.app_model.specs.Sound.{IsSoundApp}
-use Rattle.app_model.specs.Targets.{call_by, finds, found_by, found_of, found_virtually, is_foreign, is_method, method_no, row_of, targets_of_call}
+use Rattle.app_model.specs.Targets.{call_by, found_by, found_of, found_virtually, is_foreign, row_of, targets_of_call}
 use Rattle.class_graph.proofs.Climbs.{no_line}
-use Rattle.class_graph.proofs.Lists.{any_found, any_there, class_found, same_test, there_at}
+use Rattle.class_graph.proofs.Lists.{any_there, class_found, same_test, there_at}
 use Rattle.call_targets.specs.Below.{class_no, may_be}
 use Rattle.call_targets.specs.Signatures.{AreDeclared, classes_with}
 use Rattle.call_targets.specs.Sources.{found_from, named_parts, row_from}
 use Rattle.call_targets.specs.declared.declared.Signature.{Signature}
 use Rattle.call_targets.specs.declared.sources.Source.{Source}
-use Rattle.call_targets.specs.Looking.{begins, begins_at}
 use Rattle.call_targets.specs.Laws.{Receives}
 use Rattle.call_targets.proofs.Receivers.{begun, found_told}
 use Rattle.call_targets.proofs.Members.{in_range, row_same}

@@ -1,5 +1,5 @@
 -- What mapped and filtered lists have, and tests that go by that alone.
-use Rattle.std.proofs.Common.{◌≡◌, ℕ, zero, suc, ◌<◌, ◌+◌, ◌||◌, Bool, true, false, List, [], ◌∷◌, ◌++◌, length, map, refl, sym, ap, ap₂, ◌∙◌, inl, inr, ⊎_elim, arith, Contains, Option, Some, None, cond, eqb, eq-eqb, slice_get, subst}
+use Rattle.std.proofs.Common.{◌≡◌, ℕ, zero, suc, ◌<◌, ◌||◌, Bool, true, false, List, [], ◌∷◌, ◌++◌, length, map, refl, sym, ap, ap₂, ◌∙◌, inl, inr, ⊎_elim, arith, Contains, Option, Some, None, cond, eqb, eq-eqb, slice_get, subst}
 use Rattle.std.specs.Prelude.{◌⊎◌, ◌↔◌, filter_map, is_none}
 use Rattle.std.specs.List.{cons_option, filter, list_any, range_with_len}
 use Rattle.std.specs.List.Sorted.{IsPermutation}

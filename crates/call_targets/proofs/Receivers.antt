@@ -1,15 +1,14 @@
 -- What a virtual call finds, in the words of the subject.
-use Rattle.std.proofs.Common.{◌≡◌, ℕ, ◌<◌, Bool, true, List, [], ◌∷◌, ◌++◌, length, map, refl, sym, ap, ◌∙◌, inl, inr, ⊎_elim, arith, eq-eqb, Contains, Option, Some, None, IfSome, subst}
+use Rattle.std.proofs.Common.{◌≡◌, ℕ, ◌<◌, Bool, true, List, [], ◌∷◌, length, map, refl, sym, ap, inl, inr, ⊎_elim, arith, Contains, Option, Some, None, IfSome, subst}
 use Rattle.std.specs.Prelude.{◌⊎◌, ◌↔◌, is_none}
 use Rattle.std.specs.List.{filter, list_any, range_with_len}
-use Rattle.std.proofs.lemmas.Bool.{eqb-true, false≢true}
 use Rattle.std.proofs.lemmas.List.Elements.{Contains-append_cases, Contains-append_left, Contains-append_right}
 use Rattle.std.proofs.lemmas.List.Quantifiers.{position-Some}
 use Rattle.ns_base.specs.declared.rows.MethodNo.{MethodNo}
 use Rattle.app_model.specs.declared.rows.Named.{Named}
 use Rattle.app_model.specs.Hierarchy.{class_of_type, line_of, lookup_of, method_in, nearest, or_else}
 use Rattle.app_model.specs.Parts.{AppParts, ClassParts}
-use Rattle.app_model.specs.Targets.{found_of, found_virtually, finds, is_method, may_receive, method_no, row_of, targets_of_call}
+use Rattle.app_model.specs.Targets.{found_of, found_virtually, finds, may_receive, method_no, row_of, targets_of_call}
 use Rattle.class_graph.proofs.Lists.{any_found, any_there}
 use Rattle.call_targets.specs.Laws.{CallLaw, Receives, TellsCalls}
 use Rattle.call_targets.specs.Looking.{begins, begins_at}

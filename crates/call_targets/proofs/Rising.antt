@@ -1,5 +1,5 @@
 -- A list of numbers that rises is told by what it has.
-use Rattle.std.proofs.Common.{◌≡◌, ℕ, zero, suc, ◌+◌, ◌<◌, ◌≤◌, Bool, true, false, List, [], ◌∷◌, length, refl, sym, ap₂, ◌∙◌, arith, ⊎_elim, get_or, Contains}
+use Rattle.std.proofs.Common.{◌≡◌, ℕ, zero, suc, ◌+◌, ◌<◌, ◌≤◌, Bool, true, false, List, [], ◌∷◌, length, refl, ap₂, arith, ⊎_elim, get_or, Contains}
 use Rattle.std.specs.Prelude.{◌↔◌}
 use Rattle.std.specs.List.{filter, range_with_len}
 use Rattle.std.specs.List.Sorted.{IsStrictlyIncreasing}
@@ -20,9 +20,10 @@ same_up lo [] (y ∷ ys) ux uy h = absurd (omega (arith, ((h y).1 (in_first y ys
 same_up lo (x ∷ xs) [] ux uy h = absurd (omega (arith, ((h x).0 (in_first x xs)).1))
 same_up lo (x ∷ xs) (y ∷ ys) ux uy h =
     let e : x ≡ y = omega (arith, low y (y ∷ ys) x (omega arith, uy.1) ((h x).0 (in_first x xs)), low x (x ∷ xs) y (omega arith, ux.1) ((h y).1 (in_first y ys))) in
-    ap₂ (λ (z : ℕ) (zs : List ℕ). z ∷ zs) e (same_up (x + 1) xs ys ux.1 (rw e uy.1) (λ n.
-    (λ c. ⊎_elim (λ f. absurd (omega (arith, f, e, low (x + 1) xs n ux.1 c))) (λ r. r) (cons_cases y ys n ((h n).0 (in_rest x xs n c))),
-    λ c. ⊎_elim (λ f. absurd (omega (arith, f, e, low (y + 1) ys n uy.1 c))) (λ r. r) (cons_cases x xs n ((h n).1 (in_rest y ys n c))))))
+    ap₂ (λ (z : ℕ) (zs : List ℕ). z ∷ zs) e (same_up (x + 1) xs ys ux.1 (rw e uy.1) (λ n. (
+      λ c. ⊎_elim (λ f. absurd (omega (arith, f, e, low (x + 1) xs n ux.1 c))) (λ r. r) (cons_cases y ys n ((h n).0 (in_rest x xs n c))),
+      λ c. ⊎_elim (λ f. absurd (omega (arith, f, e, low (y + 1) ys n uy.1 c))) (λ r. r) (cons_cases x xs n ((h n).1 (in_rest y ys n c))),
+    )))
 
 up_less : (low lo : ℕ) (xs : List ℕ) → low ≤ lo → Up lo xs → Up low xs
 up_less low lo [] le up = tt
@@ -43,5 +44,7 @@ up_from lo (x ∷ xs) le h = (le (omega arith), up_from (x + 1) xs (λ lt. omega
 -- a list that rises is a filter of a range
 pub rising_filter : (p : ℕ → Bool) (n : ℕ) (xs : List ℕ) → IsStrictlyIncreasing xs → ((k : ℕ) → Contains xs k ↔ (p k ≡ true)) → ((k : ℕ) → p k ≡ true → k < n) → xs ≡ filter p (range_with_len 0 n)
 rising_filter p n xs up h below = same_up 0 xs (filter p (range_with_len 0 n)) (up_from 0 xs (λ lt. omega arith) (λ k lt. let e : suc k ≡ k + 1 = omega arith in rw e (up k (omega (arith, lt))))) (up_filter p n 0)
-    (λ k. (λ c. let on = (h k).0 c in in_filter p (range_with_len 0 n) k (in_range n k (below k on)) on,
-    λ c. (h k).1 (from_filter p (range_with_len 0 n) k c).1))
+    (λ k. (
+      λ c. let on = (h k).0 c in in_filter p (range_with_len 0 n) k (in_range n k (below k on)) on,
+      λ c. (h k).1 (from_filter p (range_with_len 0 n) k c).1,
+    ))

@@ -1,6 +1,6 @@
 -- Roots and tops of the classes that were met, and the candidates of a look-up.
-use Rattle.std.proofs.Common.{◌≡◌, ℕ, ◌+◌, ◌<◌, ◌≤◌, ◌||◌, ◌&&◌, Bool, true, false, List, [], ◌∷◌, ◌++◌, length, refl, sym, ap, ap₂, ◌∙◌, inl, inr, ⊎_elim, arith, take, drop, get_or, Contains, Option, Some, None, append_assoc, subst, cond, option_map, slice_get}
-use Rattle.std.specs.Prelude.{◌⊎◌, not, is_none, is_some, filter_map}
+use Rattle.std.proofs.Common.{◌≡◌, ℕ, ◌+◌, ◌<◌, ◌||◌, Bool, true, false, List, [], ◌∷◌, ◌++◌, length, refl, sym, ap, ap₂, ◌∙◌, inl, inr, ⊎_elim, arith, take, drop, get_or, Contains, Option, Some, None, append_assoc, subst, cond, option_map, slice_get}
+use Rattle.std.specs.Prelude.{◌⊎◌, not, is_none, filter_map}
 use Rattle.std.specs.List.{cons_option, filter}
 use Rattle.std.specs.Option.{unwrap_or}
 use Rattle.std.proofs.lemmas.Bool.{cases_Bool, false≢true, or_left, or_right}
@@ -14,7 +14,7 @@ use Rattle.app_model.specs.Sound.{IsSoundApp}
 use Rattle.class_graph.specs.Walks.{has_kind}
 use Rattle.class_graph.proofs.Climbs.{step_up}
 use Rattle.class_graph.proofs.Lists.{class_found, class_known, kind_told, there_at, told_kind}
-use Rattle.call_targets.specs.Below.{BelowParts, IsBelow, IsReady, class_at, class_no, is_met, is_met_class, is_met_row, is_root, root_from, top_from, tops_of, with_some}
+use Rattle.call_targets.specs.Below.{BelowParts, IsBelow, IsReady, class_at, class_no, is_met_class, is_met_row, is_root, root_from, top_from, tops_of, with_some}
 use Rattle.call_targets.specs.Looking.{AreCandidates, AreEnough, EndsOutside, look_at}
 use Rattle.call_targets.specs.Signatures.{AreDeclared, classes_in}
 use Rattle.call_targets.specs.declared.declared.Signature.{Signature}

@@ -1,5 +1,5 @@
 -- The row of what look-ups found.
-use Rattle.std.proofs.Common.{◌≡◌, ℕ, ◌+◌, ◌<◌, Bool, true, List, [], ◌∷◌, ◌++◌, length, map, refl, sym, ap, ap₂, ◌∙◌, eqb, eq-eqb, take, get_or, Contains, Some, IfSome, subst}
+use Rattle.std.proofs.Common.{◌≡◌, ℕ, ◌+◌, ◌<◌, Bool, true, List, [], ◌∷◌, ◌++◌, length, map, sym, ap, ap₂, ◌∙◌, eqb, take, get_or, Contains, Some, IfSome, subst}
 use Rattle.std.specs.Prelude.{◌↔◌, filter_map, is_none}
 use Rattle.std.specs.List.{All, dedup, list_any}
 use Rattle.std.specs.List.Sorted.{IsPermutation, IsSorted}
@@ -7,10 +7,9 @@ use Rattle.std.specs.Ordering.{nat_cmp}
 use Rattle.std.proofs.lemmas.List.{take_more, append-nil}
 use Rattle.std.proofs.lemmas.List.Elements.{All-contains, filter_map-append}
 use Rattle.std.proofs.lemmas.List.Kept.{Contains-dedup_nat, Contains-from_dedup}
-use Rattle.std.proofs.lemmas.List.Sorted.{list_any-IsPermutation}
 use Rattle.std.proofs.lemmas.Map.Keys.{IsStrictlyIncreasing-dedup}
 use Rattle.app_model.specs.CallGraph.{TargetParts}
-use Rattle.app_model.specs.Targets.{finds, is_method, method_no, row_of}
+use Rattle.app_model.specs.Targets.{finds, method_no, row_of}
 use Rattle.class_graph.specs.Answers.{found_number}
 use Rattle.class_graph.specs.declared.graph.Found.{Found}
 use Rattle.class_graph.specs.declared.graph.Found.TheVariants as variant
@@ -33,9 +32,10 @@ module _ (methods : ℕ) (found : List Found) (sorted : List ℕ) (perm : IsPerm
   has_found : (k : ℕ) → Contains (dedup eqb sorted) k ↔ (finds (map found_number found) k ≡ true)
   has_found k = (
     λ c. let f = from_some found_number found k ((moved (filter_map found_number found) sorted perm k).1 (Contains-from_dedup eqb sorted k c)) in
-    (finds_in (map found_number found) k).1 (subst (Contains (map found_number found)) f.2 (in_map found_number found f.0 f.1)),
+        (finds_in (map found_number found) k).1 (subst (Contains (map found_number found)) f.2 (in_map found_number found f.0 f.1)),
     λ e. let f = from_map found_number found (Some k) ((finds_in (map found_number found) k).0 e) in
-    Contains-dedup_nat sorted k ((moved (filter_map found_number found) sorted perm k).0 (in_some found_number found f.0 k f.1 f.2)))
+        Contains-dedup_nat sorted k ((moved (filter_map found_number found) sorted perm k).0 (in_some found_number found f.0 k f.1 f.2)),
+  )
 
   found_below : (k : ℕ) → finds (map found_number found) k ≡ true → k < methods
   found_below k e =

@@ -1,5 +1,4 @@
-use Rattle.std.proofs.Common.{length, sym, slice_get, get_or, arith}
-use Rattle.std.proofs.lemmas.Option.{slice_get-get_or}
+use Rattle.std.proofs.Common.{length, arith}
 use Rattle.call_targets.proofs.Downward.{children_more, read_at}
 use Rattle.call_targets.proofs.children.find_children.Goals as goal
 

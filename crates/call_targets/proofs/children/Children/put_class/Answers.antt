@@ -1,4 +1,4 @@
-use Rattle.std.proofs.Common.{Contains, Some, ap, cond, subst, sym, ◌∙◌, ◌≡◌}
+use Rattle.std.proofs.Common.{Contains, subst, ◌∙◌, ◌≡◌}
 use Rattle.std.proofs.lemmas.Result.{IfOk-weaker}
 use Rattle.app_model.specs.Ancestors.{IsParent}
 use Rattle.app_model.specs.Parts.{ClassParts}
