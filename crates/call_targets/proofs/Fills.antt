@@ -1,6 +1,7 @@
 -- Sets, made one by one.
 use Rattle.std.proofs.Common.{◌≡◌, ℕ, zero, suc, ◌+◌, ◌*◌, ◌<◌, ◌≤◌, Bool, true, false, List, [], ◌∷◌, length, refl, sym, ap, ap₂, ◌∙◌, ⊎_elim, arith, get_or, Some, slice_get, slice_set, replicate, subst}
 use Rattle.std.specs.Prelude.{if◌then◌else◌}
+use Rattle.std.proofs.lemmas.List.{get_or-set_same, length-replicate}
 use Rattle.std.proofs.lemmas.Option.{same_Some, slice_get-get_or, slice_get_cases}
 use Rattle.ns_base.specs.Answers.{limit_of}
 use Rattle.ns_base.specs.declared.answers.Counted.TheVariants.{Targets}
@@ -64,14 +65,6 @@ module _ (app : AppParts) where
   weigh_all (set ∷ plan) = ap (λ n. set.keys * length (row_from app set.source).callees + n) (weigh_all plan)
 
   -- ---- sets
-  get_false : (bs : List Bool) (s : ℕ) → s < length bs → get_or bs s false ≡ false → slice_get bs s ≡ Some false
-  get_false bs s lt e = slice_get-get_or bs s false lt ∙ ap Some e
-
-  set_there : (bs : List Bool) (s : ℕ) → s < length bs → get_or (slice_set bs s true) s false ≡ true
-  set_there [] s lt = absurd (omega (arith, lt))
-  set_there (b ∷ bs) zero lt = refl
-  set_there (b ∷ bs) (suc s) lt = set_there bs s (omega (arith, lt))
-
   set_kept : (bs : List Bool) (s k : ℕ) → get_or bs k false ≡ true → get_or (slice_set bs s true) k false ≡ true
   set_kept [] s k e = e
   set_kept (b ∷ bs) zero zero e = refl
@@ -90,7 +83,7 @@ module _ (app : AppParts) where
     own = ⊎_elim (λ at. (at.0, at.2)) (λ past. absurd (omega (arith, past.0, lt))) (slice_get_cases old.plan s).1
 
     unmade : slice_get old.made s ≡ Some false
-    unmade = get_false old.made s (omega (arith, lt, len)) to.unmade
+    unmade = slice_get-get_or old.made s false (omega (arith, lt, len)) ∙ ap Some to.unmade
 
     pub fills : (new : SetsParts) (keys : ℕ) → ((set : SetRow) → slice_get old.plan s ≡ Some set → keys ≡ set.keys) → new.plan ≡ old.plan → new.rows ≡ slice_set old.rows s row → new.made ≡ slice_set old.made s true
         → new.total ≡ old.total + keys * length row.callees → new.total ≤ limit_of Targets → Fills app s old new
@@ -105,7 +98,7 @@ module _ (app : AppParts) where
         plan = plan;
         kept = λ j e. subst (λ (bs : List Bool). get_or bs j false ≡ true) (sym made) (set_kept old.made s j e);
       };
-      there = subst (λ (bs : List Bool). get_or bs s false ≡ true) (sym made) (set_there old.made s (omega (arith, lt, len)));
+      there = subst (λ (bs : List Bool). get_or bs s false ≡ true) (sym made) (get_or-set_same old.made s true false (omega (arith, lt, len)));
     }
 
     pub over : (keys : ℕ) → ((set : SetRow) → slice_get old.plan s ≡ Some set → keys ≡ set.keys) → limit_of Targets < old.total + keys * length row.callees → limit_of Targets < weigh app old.plan
@@ -120,10 +113,6 @@ module _ (app : AppParts) where
   pub within_limit : (sets : SetsParts) → AreSets app sets → AreMadeBelow sets (length sets.plan) → weigh app sets.plan ≤ limit_of Targets
   within_limit sets are all = omega (arith, are.few, are.total, ap (weigh_sets sets.plan) (made_all are.made all), weigh_all sets.plan)
 
-len_replicate : {X : Type 0} (n : ℕ) (x : X) → length (replicate n x) ≡ n
-len_replicate zero x = refl
-len_replicate (suc n) x = ap suc (len_replicate n x)
-
 -- ---- sets of a plan before any is made
 module _ (plan : List SetRow) (rows : List TargetParts) (made : List Bool) (n : ℕ) (all : n ≡ length plan) (are_rows : rows ≡ replicate n no_targets) (are_made : made ≡ replicate n false) where
   abbrev pub begun : SetsParts
@@ -131,8 +120,8 @@ module _ (plan : List SetRow) (rows : List TargetParts) (made : List Bool) (n : 
 
   pub places_begun : HasPlaces begun
   places_begun = record {
-    rows = ap length are_rows ∙ len_replicate n no_targets ∙ all;
-    made = ap length are_made ∙ len_replicate n false ∙ all;
+    rows = ap length are_rows ∙ length-replicate n no_targets ∙ all;
+    made = ap length are_made ∙ length-replicate n false ∙ all;
   }
 
   pub sets_begun : (app : AppParts) → AreSets app begun

@@ -15,7 +15,7 @@ use Rattle.app_model.specs.Parts.{AppParts}
 use Rattle.app_model.specs.Sound.{IsSoundApp}
 use Rattle.app_model.specs.Targets.{IsCallGraph, finds, method_no, row_of, targets_by, targets_in}
 use Rattle.app_model.specs.Words.{code_len, ins_of, named_at, place_at, places_of}
-use Rattle.call_targets.specs.Numbered.{IsNumbered, IsUse, NumberedParts, row_of_set}
+use Rattle.call_targets.specs.Numbered.{IsNumbered, IsUse, NumberedParts}
 use Rattle.call_targets.specs.Sources.{found_from, row_from}
 use Rattle.call_targets.specs.declared.numbers.SetRow.{SetRow}
 use Rattle.call_targets.specs.declared.sources.Source.{Source}
@@ -79,11 +79,7 @@ module _ (app : AppParts) (sound : IsSoundApp app) (parts : NumberedParts) (numb
   -- ---- each instruction
   told : (m i : ℕ) (used : Option ℕ) → IsUse app parts.rows used m i → set_of graph_of (Some used) ≡ targets_in app m i
   told m i None is = sym is
-  told m i (Some s) is = ap targets_of (slice_get-map (λ (set : SetRow). row_from app set.source) parts.rows s) ∙ by (slice_get parts.rows s) ∙ is.is
-    where
-      by : (o : Option SetRow) → targets_of (option_map (λ (set : SetRow). row_from app set.source) o) ≡ row_of_set app o
-      by None = refl
-      by (Some set) = refl
+  told m i (Some s) is = ap targets_of (slice_get-map (λ (set : SetRow). row_from app set.source) parts.rows s ∙ ap (option_map (λ (set : SetRow). row_from app set.source)) is.there) ∙ is.is
 
   used_there : (m i : ℕ) (used : Option ℕ) → slice_get (slice_index_or parts.uses m []) i ≡ Some used → IsUse app parts.rows used m i
   used_there m i used e = ⊎_elim
@@ -107,7 +103,7 @@ module _ (app : AppParts) (sound : IsSoundApp app) (parts : NumberedParts) (numb
 
   within : (m i s : ℕ) → use_at graph_of m i ≡ Some (Some s) → s < length graph_of.sets
   unfolding use_at
-  within m i s e = let is = used_there m i (Some s) e in omega (arith, is.there, length-map parts.rows (λ (set : SetRow). row_from app set.source))
+  within m i s e = let is = used_there m i (Some s) e in omega (arith, slice_get_within parts.rows s is.set is.there, length-map parts.rows (λ (set : SetRow). row_from app set.source))
 
   pub is_graph : IsGraph graph_of
   is_graph = record {

@@ -35,22 +35,13 @@ itself_caller : (a : Option ℕ) → option_eq same_number a a ≡ true
 itself_caller None = refl
 itself_caller (Some x) = eq-eqb x x refl
 
-abbrev make : ℕ → Option ℕ → (class name proto : ℕ) → Key
-make kind caller class name proto = record { kind = kind; caller = caller; class = class; name = name; proto = proto }
-
 pub one_key : (a b : Key) → same_parts a b ≡ true → a ≡ b
 one_key a b e =
     let kind = and_parts _ _ e in
     let caller = and_parts _ _ kind.1 in
     let class = and_parts _ _ caller.1 in
     let named = and_parts _ _ class.1 in
-    let k : a.kind ≡ b.kind = eqb-true a.kind b.kind kind.0 in
-    let c : a.caller ≡ b.caller = one_caller a.caller b.caller caller.0 in
-    let t : a.class ≡ b.class = eqb-true a.class b.class class.0 in
-    let n : a.name ≡ b.name = eqb-true a.name b.name named.0 in
-    let p : a.proto ≡ b.proto = eqb-true a.proto b.proto named.1 in
-    ap (λ x. make x a.caller a.class a.name a.proto) k ∙ ap (λ x. make b.kind x a.class a.name a.proto) c ∙ ap (λ x. make b.kind b.caller x a.name a.proto) t
-    ∙ ap (λ x. make b.kind b.caller b.class x a.proto) n ∙ ap (λ x. make b.kind b.caller b.class b.name x) p
+    rw (eqb-true a.kind b.kind kind.0) (rw (one_caller a.caller b.caller caller.0) (rw (eqb-true a.class b.class class.0) (rw (eqb-true a.name b.name named.0) (rw (eqb-true a.proto b.proto named.1) refl))))
 
 pub itself_key : (a : Key) → same_parts a a ≡ true
 itself_key a = rw (eq-eqb a.kind a.kind refl, itself_caller a.caller, eq-eqb a.class a.class refl, eq-eqb a.name a.name refl, eq-eqb a.proto a.proto refl) refl
@@ -81,33 +72,6 @@ abbrev IsTold : AppParts → (m op : ℕ) → Named → Type 0
 IsTold app m op named = targets_of_call app m op named ≡ row_by_key app (plain_form op) (caller_of app m (plain_form op)) named
 
 module _ (app : AppParts) (m : ℕ) (named : Named) where
-  told_super : (op : ℕ) → op ≡ 111 → IsTold app m op named
-  unfolding targets_of_call found_of super_of is_foreign
-  told_super op e = subst (λ x. IsTold app m x named) (sym e) refl
-
-  told_range : (op kind : ℕ) → op ≡ kind → IsTold app m kind named → IsTold app m op named
-  told_range op kind e h = subst (λ x. IsTold app m x named) (sym e) h
-
-  told_virtual : IsTold app m 116 named
-  unfolding targets_of_call found_of is_foreign
-  told_virtual = refl
-
-  told_super_range : IsTold app m 117 named
-  unfolding targets_of_call found_of super_of is_foreign
-  told_super_range = refl
-
-  told_direct : IsTold app m 118 named
-  unfolding targets_of_call found_of is_foreign
-  told_direct = refl
-
-  told_static : IsTold app m 119 named
-  unfolding targets_of_call found_of is_foreign
-  told_static = refl
-
-  told_interface : IsTold app m 120 named
-  unfolding targets_of_call found_of is_foreign
-  told_interface = refl
-
   -- neither by range nor of a superclass
   told_plain : (op : ℕ) → eqb op 116 ≡ false → eqb op 117 ≡ false → eqb op 118 ≡ false → eqb op 119 ≡ false → eqb op 120 ≡ false → eqb op 111 ≡ false → IsTold app m op named
   unfolding targets_of_call found_of
@@ -127,13 +91,13 @@ module _ (app : AppParts) (m : ℕ) (named : Named) where
       same false false = refl
 
   pub told : (op : ℕ) → IsTold app m op named
-  told op = on (eqb op 116) (λ e. told_range op 116 (eqb-true op 116 e) told_virtual) (λ a.
-      on (eqb op 117) (λ e. told_range op 117 (eqb-true op 117 e) told_super_range) (λ b.
-      on (eqb op 118) (λ e. told_range op 118 (eqb-true op 118 e) told_direct) (λ c.
-      on (eqb op 119) (λ e. told_range op 119 (eqb-true op 119 e) told_static) (λ d.
-      on (eqb op 120) (λ e. told_range op 120 (eqb-true op 120 e) told_interface) (λ e.
-      on (eqb op 111) (λ f. told_super op (eqb-true op 111 f)) (λ f. told_plain op a b c d e f))))))
+  unfolding targets_of_call found_of super_of is_foreign
+  told op = on (eqb op 116) (λ e. at 116 e refl) (λ a. on (eqb op 117) (λ e. at 117 e refl) (λ b. on (eqb op 118) (λ e. at 118 e refl) (λ c.
+      on (eqb op 119) (λ e. at 119 e refl) (λ d. on (eqb op 120) (λ e. at 120 e refl) (λ e. on (eqb op 111) (λ f. at 111 f refl) (λ f. told_plain op a b c d e f))))))
     where
+      at : (kind : ℕ) → eqb op kind ≡ true → IsTold app m kind named → IsTold app m op named
+      at kind e h = subst (λ x. IsTold app m x named) (sym (eqb-true op kind e)) h
+
       on : (b : Bool) → (b ≡ true → IsTold app m op named) → (b ≡ false → IsTold app m op named) → IsTold app m op named
       on true then_so else_so = then_so refl
       on false then_so else_so = else_so refl

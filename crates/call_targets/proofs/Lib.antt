@@ -1,12 +1,13 @@
-pub mod Calls
 pub mod Climb
+pub mod Downward
 pub mod Fills
 pub mod Graph
 pub mod Keys
 pub mod Listed
 pub mod Look
+pub mod Members
 pub mod Numbering
-pub mod Parents
+pub mod Receivers
 pub mod Rising
 pub mod Roots
 pub mod Rows

@@ -1,41 +1,33 @@
 -- What a source finds is what the call can call.
-use Rattle.std.proofs.Common.{◌≡◌, ℕ, ◌<◌, ◌||◌, ◌&&◌, Bool, true, false, List, [], ◌∷◌, ◌++◌, length, map, refl, sym, ap, ap₂, ◌∙◌, ⊎_elim, arith, eq-eqb, Contains, Option, Some, None, is_some, option_map, get_or, subst}
-use Rattle.std.specs.Prelude.{if◌then◌else◌, is_none, not}
-use Rattle.std.specs.List.{filter, list_any, range_with_len}
+use Rattle.std.proofs.Common.{◌≡◌, ℕ, ◌<◌, ◌||◌, ◌&&◌, Bool, true, false, List, [], ◌∷◌, ◌++◌, length, map, refl, sym, ap, ap₂, ◌∙◌, inl, inr, ⊎_elim, eq-eqb, Contains, Option, Some, None, is_some, option_map, get_or, subst}
+use Rattle.std.specs.Prelude.{◌⊎◌, if◌then◌else◌, is_none, not}
+use Rattle.std.specs.List.{list_any, range_with_len}
 use Rattle.std.specs.declared.alloc.Global.{Global}
 use Rattle.std.specs.declared.vec.Vec.{Vec}
 use Rattle.std.proofs.lemmas.Bool.{and_parts, eqb-true, false≢true, or_cases, or_left, or_right}
 use Rattle.std.proofs.lemmas.List.Elements.{filter_agree}
-use Rattle.std.proofs.lemmas.List.Folds.{list_any-append, list_any_at}
-use Rattle.std.proofs.lemmas.List.FromFn.{get_or-range_with_len, length-range_with_len}
 use Rattle.std.proofs.lemmas.List.Quantifiers.{position-Some}
 use Rattle.std.proofs.lemmas.Option.{slice_get-get_or}
 use Rattle.ns_base.specs.declared.rows.ClassNo.{ClassNo}
 use Rattle.app_model.specs.declared.calls.By.{By}
 use Rattle.app_model.specs.declared.rows.MethodRow.{MethodRow}
 use Rattle.app_model.specs.declared.rows.Named.{Named}
-use Rattle.app_model.specs.CallGraph.{TargetParts}
 use Rattle.app_model.specs.Hierarchy.{class_of_type, has_unknown_above, is_sub, is_unknown, line, line_of, lookup_of, may_be_sub, method_in, nearest, or_else}
 use Rattle.app_model.specs.Parts.{AppParts, ClassParts}
 use Rattle.app_model.specs.Sound.{IsSoundApp}
-use Rattle.app_model.specs.Targets.{call_by, finds, found_by, found_of, found_virtually, is_foreign, is_method, method_no, row_of, targets_of_call}
+use Rattle.app_model.specs.Targets.{call_by, found_by, found_of, found_virtually, is_foreign, row_of, targets_of_call}
 use Rattle.class_graph.proofs.Climbs.{no_line}
-use Rattle.class_graph.proofs.Lists.{any_found, any_there, class_found, same_test, there_at}
-use Rattle.call_targets.specs.Below.{may_be}
+use Rattle.class_graph.proofs.Lists.{any_there, class_found, same_test, there_at}
+use Rattle.call_targets.specs.Below.{class_no, may_be}
 use Rattle.call_targets.specs.Signatures.{AreDeclared, classes_with}
 use Rattle.call_targets.specs.Sources.{found_from, named_parts, row_from}
 use Rattle.call_targets.specs.declared.declared.Signature.{Signature}
 use Rattle.call_targets.specs.declared.sources.Source.{Source}
-use Rattle.call_targets.specs.Looking.{begins, begins_at}
-use Rattle.call_targets.proofs.Climb.{any_filter, any_map, class_no, found_in}
+use Rattle.call_targets.specs.Laws.{Receives}
+use Rattle.call_targets.proofs.Receivers.{begun, found_told}
+use Rattle.call_targets.proofs.Members.{in_range, row_same}
 
 -- ---- rows
-pub row_same : (n : ℕ) (xs ys : List (Option ℕ)) → ((p : Option ℕ → Bool) → list_any p xs ≡ list_any p ys) → row_of n xs ≡ row_of n ys
-unfolding row_of
-row_same n xs ys h =
-    ap₂ (λ (ns : List ℕ) (b : Bool). let row : TargetParts = record { callees = map method_no ns; outside = b } in row)
-    (filter_agree (finds xs) (finds ys) (λ k. h (is_method k)) (range_with_len 0 n)) (h is_none)
-
 pub foreign_row : (app : AppParts) (m op : ℕ) (named : Named) (source : Source) → is_foreign app op named ≡ true → found_from app source ≡ None ∷ [] → row_from app source ≡ targets_of_call app m op named
 unfolding row_from targets_of_call found_of
 foreign_row app m op named source f w = ap (row_of (length app.methods)) w ∙ rw f refl
@@ -81,9 +73,9 @@ declared_at app lists all name proto c n e =
     same : (k : ClassNo) (c : ℕ) → k.0 ≡ c → ◌≡◌ {A = ClassNo} k (class_no c)
     same k c e = rw (← e) refl
 
-may_itself : (app : AppParts) (kind : ℕ) (class : ClassParts) → class.name.0 ≡ kind → may_be app kind class ≡ true
+pub may_itself : (app : AppParts) (t : ℕ) → may_be_sub app (Some t) t ≡ true
 unfolding may_be_sub is_sub
-may_itself app kind class e = or_left _ _ (or_left _ _ (eq-eqb class.name.0 kind e))
+may_itself app t = or_left _ _ (or_left _ _ (eq-eqb t t refl))
 
 module _ (app : AppParts) (lists : List (Signature × Vec ClassNo Global)) (all : AreDeclared app (length app.methods) lists) (sound : IsSoundApp app) where
   module _ (named : Named) (none : classes_with lists named.name.0 named.proto.0 ≡ None) where
@@ -98,35 +90,21 @@ module _ (app : AppParts) (lists : List (Signature × Vec ClassNo Global)) (all 
     unfolding lookup_of
     look_undeclared t = nearest_none _ undeclared (line_of app.classes t)
 
-    abbrev own : List (Option ℕ)
-    own = map (found_in app named.name.0 named.proto.0) (filter (may_be app named.class.0) app.classes)
-
-    tells_none : (p : Option ℕ → Bool) → list_any p (None ∷ []) ≡ list_any p (begins app named.class.0 ++ own)
-    tells_none p = same_test _ _ forth back ∙ sym (list_any-append p (begins app named.class.0) own)
-      where
-        from : (o : Option ℕ) → class_of_type app.classes named.class.0 ≡ o → p None ≡ true → (list_any p (begins_at o) || list_any p own) ≡ true
-        from None e h = or_left _ _ (or_left (p None) false h)
-        from (Some k) e h =
-            let found = class_found app.classes named.class.0 k e in
-            any_map p (found_in app named.name.0 named.proto.0) (filter (may_be app named.class.0) app.classes) ∙ any_filter (may_be app named.class.0) (λ class. p (found_in app named.name.0 named.proto.0 class)) app.classes
-            ∙ any_there _ app.classes found.0 (there_at app.classes k found.0 found.1) (rw (may_itself app named.class.0 found.0 found.2) (ap p (look_undeclared found.0.name.0) ∙ h))
-
-        forth : (p None || false) ≡ true → (list_any p (begins app named.class.0) || list_any p own) ≡ true
-        forth e = from (class_of_type app.classes named.class.0) refl (⊎_elim (λ h. h) (λ h. absurd (false≢true h)) (or_cases (p None) false e))
-
-        begun : (o : Option ℕ) → list_any p (begins_at o) ≡ true → (p None || false) ≡ true
-        begun None e = e
-        begun (Some k) e = absurd (false≢true e)
-
-        back : (list_any p (begins app named.class.0) || list_any p own) ≡ true → (p None || false) ≡ true
-        back e = ⊎_elim (begun (class_of_type app.classes named.class.0))
-            (λ r. let t = any_found (λ (class : ClassParts). p (found_in app named.name.0 named.proto.0 class)) (filter (may_be app named.class.0) app.classes) (sym (any_map p _ _) ∙ r) in
-            or_left (p None) false (ap p (sym (look_undeclared t.0.name.0)) ∙ t.2))
-            (or_cases _ _ e)
-
     -- where no class declares it, a call leads outside alone
     pub undeclared_row : (m : ℕ) → row_of (length app.methods) (None ∷ []) ≡ row_of (length app.methods) (found_virtually app m named)
-    undeclared_row m = row_same (length app.methods) (None ∷ []) (found_virtually app m named) tells_none
+    undeclared_row m = row_same (length app.methods) (None ∷ []) (found_virtually app m named) (λ o. (forth o, back o))
+      where
+        from : (k : Option ℕ) → class_of_type app.classes named.class.0 ≡ k → ((class_of_type app.classes named.class.0 ≡ None) × (◌≡◌ {A = Option ℕ} None None)) ⊎ Receives app named None
+        from None e = inl (e, refl)
+        from (Some k) e =
+            let found = class_found app.classes named.class.0 k e in
+            inr (record { class = found.0; there = there_at app.classes k found.0 found.1; may = subst (λ t. may_be_sub app (Some t) named.class.0 ≡ true) (sym found.2) (may_itself app named.class.0); finds = look_undeclared found.0.name.0 })
+
+        forth : (o : Option ℕ) → Contains (None ∷ []) o → Contains (found_virtually app m named) o
+        forth o h = let e = ((begun None o).0 h).1 in rw e ((found_told app m named None).1 (from (class_of_type app.classes named.class.0) refl))
+
+        back : (o : Option ℕ) → Contains (found_virtually app m named) o → Contains (None ∷ []) o
+        back o h = (begun None o).1 (refl, ⊎_elim (λ l. l.1) (λ r. sym r.finds ∙ look_undeclared r.class.name.0) ((found_told app m named o).0 h))
 
 -- ---- types of which the files say nothing
 may_unknown : (app : AppParts) (t k : ℕ) → k < length app.types → is_unknown app k ≡ true → may_be_sub app (Some t) k ≡ has_unknown_above app t
@@ -136,9 +114,7 @@ may_unknown app t k lt e = same_test _ _ forth back
     forth : (is_sub app t k || (is_none (class_of_type app.classes k) && has_unknown_above app t)) ≡ true → list_any (λ u. is_sub app t u && is_unknown app u) (range_with_len 0 (length app.types)) ≡ true
     forth h = ⊎_elim
         (λ (s : is_sub app t k ≡ true).
-        let place : get_or (range_with_len 0 (length app.types)) k 0 ≡ k = get_or-range_with_len 0 (length app.types) k 0 lt ∙ omega arith in
-        let test = λ (u : ℕ). is_sub app t u && is_unknown app u in
-        list_any_at test (range_with_len 0 (length app.types)) k 0 (rw (length-range_with_len 0 (length app.types)) lt) (ap test place ∙ ap (λ b. b && is_unknown app k) s ∙ e))
+        any_there (λ u. is_sub app t u && is_unknown app u) (range_with_len 0 (length app.types)) k (in_range (length app.types) k lt) (ap (λ b. b && is_unknown app k) s ∙ e))
         (λ s. (and_parts _ _ s).1)
         (or_cases (is_sub app t k) (is_none (class_of_type app.classes k) && has_unknown_above app t) h)
 

@@ -1,96 +1,25 @@
--- The candidates of a look-up, and what they find.
-use Rattle.std.proofs.Common.{◌≡◌, ℕ, zero, suc, ◌+◌, ◌<◌, Bool, true, false, List, [], ◌∷◌, ◌++◌, length, map, refl, sym, ap, ap₂, ◌∙◌, ⊎_elim, arith, get_or, take, Contains, Option, Some, None, IfSome, slice_get, subst, append_assoc}
+-- What the candidates find, class by class.
+use Rattle.std.proofs.Common.{◌≡◌, ℕ, ◌+◌, ◌<◌, true, false, List, [], ◌∷◌, ◌++◌, length, map, refl, sym, ap, ap₂, ◌∙◌, inl, inr, arith, get_or, take, Contains, Option, Some, IfSome, slice_get, subst, append_assoc}
 use Rattle.std.specs.Prelude.{is_none}
-use Rattle.std.specs.List.{filter}
-use Rattle.std.specs.Option.{unwrap_or}
-use Rattle.std.proofs.lemmas.Bool.{cases_lt, false≢true}
-use Rattle.std.proofs.lemmas.List.{get_or_past, length-map, take_more}
-use Rattle.std.proofs.lemmas.List.Elements.{All-contains, All-nil, All-push, Contains-append_cases, Contains-append_left, Contains-append_right, filter_passes}
-use Rattle.std.proofs.lemmas.List.Quantifiers.{position-Some}
-use Rattle.std.proofs.lemmas.Option.{same_Some, slice_get_cases}
+use Rattle.std.specs.List.{All}
+use Rattle.std.proofs.lemmas.List.{map-append, map_push, take_all, take_more}
+use Rattle.std.proofs.lemmas.List.Elements.{All-nil, All-push, Contains-append_left, Contains-append_right, Contains-get_or}
+use Rattle.std.proofs.lemmas.Option.{slice_get_within}
 use Rattle.ns_base.specs.declared.rows.ClassNo.{ClassNo}
-use Rattle.app_model.specs.Hierarchy.{class_of_type, line_of, lookup_of, method_in, nearest, or_else}
+use Rattle.app_model.specs.Hierarchy.{class_of_type, lookup_of}
 use Rattle.app_model.specs.Parts.{AppParts, ClassParts}
 use Rattle.app_model.specs.Sound.{IsSoundApp}
 use Rattle.app_model.specs.Targets.{found_virtually, row_of}
 use Rattle.class_graph.specs.Answers.{found_number}
 use Rattle.class_graph.specs.declared.graph.Found.{Found}
 use Rattle.class_graph.specs.declared.graph.Found.TheVariants as variant
-use Rattle.class_graph.proofs.Lists.{read_of}
-use Rattle.call_targets.specs.Below.{is_marked_class, may_be, may_be_at}
-use Rattle.call_targets.specs.Looking.{AreCandidates, AreFound, IsAsked, MakerParts, begins, look_at, look_in}
-use Rattle.call_targets.specs.Signatures.{classes_in}
+use Rattle.call_targets.specs.Looking.{AreCandidates, AreEnough, AreFound, EndsOutside, IsAsked, MakerParts, begins, look_at, look_in, tried_of}
 use Rattle.call_targets.specs.Sources.{named_parts}
-use Rattle.call_targets.proofs.Climb.{candidates_tell, class_no}
-use Rattle.call_targets.proofs.Look.{declared_at, row_same}
-use Rattle.call_targets.proofs.Uses.{map_end}
-
-pub may_within : (app : AppParts) (kind c : ℕ) → may_be_at app kind c ≡ true → c < length app.classes
-may_within app kind c e = ⊎_elim (λ lt. lt)
-    (λ past. absurd (false≢true (sym (get_or_past (map (may_be app kind) app.classes) c false (omega (arith, past, length-map app.classes (may_be app kind)))) ∙ e)))
-    (cases_lt c (length app.classes))
-
--- ---- the candidates
-put_front : {X : Type 0} (x y : X) (xs : List X) → Contains xs x → Contains (y ∷ xs) x
-put_front x y xs (k, lt, e) = (suc k, omega (arith, lt), e)
-
-pub in_filter : {X : Type 0} (p : X → Bool) (xs : List X) (x : X) (k : ℕ) → slice_get xs k ≡ Some x → p x ≡ true → Contains (filter p xs) x
-in_filter p [] x k e h = absurd (cc)
-in_filter p (y ∷ xs) x zero e h =
-    let f : y ≡ x = same_Some y x e in
-    rw f (rw h (zero, omega arith, refl))
-in_filter p (y ∷ xs) x (suc k) e h = by (p y) refl (in_filter p xs x k e h)
-  where
-    by : (b : Bool) → p y ≡ b → Contains (filter p xs) x → Contains (filter p (y ∷ xs)) x
-    by true f c = rw f (put_front x y (filter p xs) c)
-    by false f c = rw f c
-
-module _ (app : AppParts) (asked : MakerParts) (kind name proto : ℕ) (ready : IsAsked app kind asked) where
-  candidates_of : (list : List ClassNo) → ((c n : ℕ) → method_in app name proto c ≡ Some n → Contains list (class_no c))
-      → AreCandidates app kind name proto (asked.below.roots ++ filter (is_marked_class asked.below.marks) list)
-  candidates_of list has = record {
-    each = λ d c. ⊎_elim (λ r. All-contains (λ (k : ClassNo). may_be_at app kind k.0 ≡ true) asked.below.roots d ready.below.roots.each r)
-        (λ f. marked d (All-contains (λ (k : ClassNo). is_marked_class asked.below.marks k ≡ true) _ d (filter_passes (is_marked_class asked.below.marks) list) f))
-        (Contains-append_cases asked.below.roots (filter (is_marked_class asked.below.marks) list) d c);
-    declared = λ c n may e. let r = read_of list (class_no c) (has c n e) in
-        Contains-append_right asked.below.roots _ (class_no c) (in_filter (is_marked_class asked.below.marks) list (class_no c) r.0 r.1 (may_marked c may));
-    roots = λ c may root. Contains-append_left asked.below.roots _ (class_no c) (ready.below.roots.full c (within c may) may root);
-  }
-    where
-      marked : (d : ClassNo) → is_marked_class asked.below.marks d ≡ true → may_be_at app kind d.0 ≡ true
-      marked d e = ap (λ ms. get_or ms d.0 false) (sym ready.below.marks) ∙ e
-
-      may_marked : (c : ℕ) → may_be_at app kind c ≡ true → is_marked_class asked.below.marks (class_no c) ≡ true
-      may_marked c e = ap (λ ms. get_or ms c false) ready.below.marks ∙ e
-
-      within : (c : ℕ) → may_be_at app kind c ≡ true → c < length app.classes
-      within c e = may_within app kind c e
-
-  pub candidates_in : AreCandidates app kind name proto (asked.below.roots ++ filter (is_marked_class asked.below.marks) (classes_in asked.index.declared name proto))
-  candidates_in = candidates_of (classes_in asked.index.declared name proto) (λ c n f.
-      let d = declared_at app asked.index.declared ready.maker.index.declared name proto c n f in
-      subst (λ l. Contains l (class_no c)) (ap (λ (o : Option (List ClassNo)). unwrap_or o []) (sym d.1)) d.2)
-
--- ---- what they find
-nearest_within : (bound : ℕ) (f : ℕ → Option ℕ) → ((c : ℕ) → IfSome (f c) (λ n. n < bound)) → (cs : List ℕ) → IfSome (nearest f cs) (λ n. n < bound)
-nearest_within bound f h [] = tt
-nearest_within bound f h (c ∷ cs) = by (f c) (h c) (nearest_within bound f h cs)
-  where
-    by : (o : Option ℕ) → IfSome o (λ n. n < bound) → IfSome (nearest f cs) (λ n. n < bound) → IfSome (or_else o (nearest f cs)) (λ n. n < bound)
-    by None one rest = rest
-    by (Some n) one rest = one
-
-method_within : (app : AppParts) (name proto c : ℕ) → IfSome (method_in app name proto c) (λ n. n < length app.methods)
-unfolding method_in
-method_within app name proto c = by _ (λ n e. (position-Some _ app.methods n (record { class = record { 0 = 0 }; name = record { 0 = 0 }; proto = record { 0 = 0 }; flags = 0; registers = 0; ins = 0 }) e).0)
-  where
-    by : (o : Option ℕ) → ((n : ℕ) → o ≡ Some n → n < length app.methods) → IfSome o (λ n. n < length app.methods)
-    by None h = tt
-    by (Some n) h = h n refl
-
-pub look_within : (app : AppParts) (t name proto : ℕ) → IfSome (lookup_of app t name proto) (λ n. n < length app.methods)
-unfolding lookup_of
-look_within app t name proto = nearest_within (length app.methods) (method_in app name proto) (method_within app name proto) (line_of app.classes t)
+use Rattle.call_targets.proofs.Climb.{candidates_tell}
+use Rattle.call_targets.proofs.Downward.{read_at, take_has}
+use Rattle.call_targets.proofs.Members.{is_nothing, row_same}
+use Rattle.call_targets.proofs.Receivers.{look_within}
+use Rattle.call_targets.proofs.Roots.{candidates_in}
 
 abbrev pub IsWithin : AppParts → Found → Type 0
 IsWithin app f = IfSome (found_number f) (λ n. n < length app.methods)
@@ -102,27 +31,43 @@ pub found_outside : (app : AppParts) (kind : ℕ) → is_none (class_of_type app
 found_outside app kind e = record { is = rw e refl; each = All-push (IsWithin app) [] variant.Outside (All-nil (IsWithin app)) tt }
 
 -- one more class
-pub found_more : (app : AppParts) (name proto : ℕ) (numbers : List (Option ℕ)) (tried : List ClassNo) (i : ℕ) (found : List Found) (f : Found) (d : ClassNo) → i < length tried → (get_or tried i d).0 < length app.classes
-    → ((row : ClassParts) → slice_get app.classes (get_or tried i d).0 ≡ Some row → found_number f ≡ lookup_of app row.name.0 name proto)
-    → AreFound app (numbers ++ map (look_at app name proto) (take i tried)) found → AreFound app (numbers ++ map (look_at app name proto) (take (i + 1) tried)) (found ++ f ∷ [])
-found_more app name proto numbers tried i found f d lt within told before = record {
-  is =
-      map_end found_number found f ∙ ap₂ (λ (ns : List (Option ℕ)) (n : Option ℕ). ns ++ n ∷ []) before.is same ∙ append_assoc numbers (map (look_at app name proto) (take i tried)) (look_at app name proto (get_or tried i d) ∷ [])
-      ∙ ap (λ ns. numbers ++ ns) (sym (map_end (look_at app name proto) (take i tried) (get_or tried i d)) ∙ ap (map (look_at app name proto)) (sym (take_more tried i d lt)));
-  each = All-push (IsWithin app) found f before.each (subst (λ o. IfSome o (λ n. n < length app.methods)) (sym same) there);
-}
-  where
-    row : (class : ClassParts) × (slice_get app.classes (get_or tried i d).0 ≡ Some class)
-    row = ⊎_elim (λ at. (at.0, at.2)) (λ past. absurd (omega (arith, past.0, within))) (slice_get_cases app.classes (get_or tried i d).0).1
+module _ (app : AppParts) (name proto : ℕ) (f : Found) (c : ClassNo) (within : c.0 < length app.classes) (told : (row : ClassParts) → slice_get app.classes c.0 ≡ Some row → found_number f ≡ lookup_of app row.name.0 name proto) where
+  pub found_at : found_number f ≡ look_at app name proto c
+  found_at = let row = read_at app.classes c.0 within in told row.0 row.1 ∙ sym (ap (look_in app name proto) row.1)
 
-    same : found_number f ≡ look_at app name proto (get_or tried i d)
-    same = told row.0 row.1 ∙ sym (ap (look_in app name proto) row.1)
+  pub found_next : (numbers : List (Option ℕ)) (found : List Found) → AreFound app numbers found → AreFound app (numbers ++ look_at app name proto c ∷ []) (found ++ f ∷ [])
+  found_next numbers found before = record {
+    is = map_push found_number found f ∙ ap₂ (λ (ns : List (Option ℕ)) (n : Option ℕ). ns ++ n ∷ []) before.is found_at;
+    each = All-push (IsWithin app) found f before.each (let row = read_at app.classes c.0 within in rw (told row.0 row.1) (look_within app row.0.name.0 name proto));
+  }
 
-    there : IfSome (look_at app name proto (get_or tried i d)) (λ n. n < length app.methods)
-    there = subst (λ o. IfSome (look_in app name proto o) (λ n. n < length app.methods)) (sym row.1) (look_within app row.0.name.0 name proto)
+pub found_more : (app : AppParts) (name proto : ℕ) (numbers : List (Option ℕ)) (tried : List ClassNo) (i : ℕ) (found : List Found) (d : ClassNo) → i < length tried
+    → AreFound app ((numbers ++ map (look_at app name proto) (take i tried)) ++ look_at app name proto (get_or tried i d) ∷ []) found → AreFound app (numbers ++ map (look_at app name proto) (take (i + 1) tried)) found
+found_more app name proto numbers tried i found d lt are = subst (λ ns. AreFound app ns found)
+    (append_assoc numbers (map (look_at app name proto) (take i tried)) (look_at app name proto (get_or tried i d) ∷ [])
+    ∙ ap (λ ns. numbers ++ ns) (sym (map_push (look_at app name proto) (take i tried) (get_or tried i d)) ∙ ap (map (look_at app name proto)) (sym (take_more tried i d lt)))) are
 
--- the candidates' look-ups tell what a call can call
-pub tried_row : (app : AppParts) (m kind name proto : ℕ) (tried : List ClassNo) → IsSoundApp app → AreCandidates app kind name proto tried
-    → row_of (length app.methods) (begins app kind ++ map (look_at app name proto) tried) ≡ row_of (length app.methods) (found_virtually app m (named_parts kind name proto))
-tried_row app m kind name proto tried sound all =
-    sym (row_same (length app.methods) (found_virtually app m (named_parts kind name proto)) (begins app kind ++ map (look_at app name proto) tried) (candidates_tell app sound kind name proto tried all))
+pub ends_outside : (app : AppParts) (name proto : ℕ) (tops : List ClassNo) (i : ℕ) (d : ClassNo) → i < length tops → is_none (look_at app name proto (get_or tops i d)) ≡ true → EndsOutside app name proto (take (i + 1) tops)
+ends_outside app name proto tops i d lt e = record { class = get_or tops i d; there = (take_has tops i d (get_or tops i d) lt).1 (inr refl); finds = is_nothing (look_at app name proto (get_or tops i d)) e }
+
+-- ---- the classes that are tried
+module _ (app : AppParts) (sound : IsSoundApp app) (kind : ℕ) (asked : MakerParts) (ready : IsAsked app kind asked) (name proto : ℕ) where
+  candidates : (n : ℕ) → AreEnough app name proto asked.below.tops n → AreCandidates app kind name proto (tried_of app asked name proto ++ take n asked.below.tops)
+  candidates n enough = candidates_in app sound kind asked.below ready.below name proto asked.index.declared ready.maker.index.declared n enough
+
+  within : (d : ClassNo) → Contains (tried_of app asked name proto ++ take (length asked.below.tops) asked.below.tops) d → d.0 < length app.classes
+  within d h = let b = (candidates (length asked.below.tops) (inl refl)).each d h in slice_get_within app.classes d.0 b.class b.there
+
+  pub tried_within : All (λ (k : ClassNo). k.0 < length app.classes) (tried_of app asked name proto)
+  tried_within k d lt = within _ (Contains-append_left (tried_of app asked name proto) (take (length asked.below.tops) asked.below.tops) _ (Contains-get_or (tried_of app asked name proto) k d lt))
+
+  pub tops_within : All (λ (k : ClassNo). k.0 < length app.classes) asked.below.tops
+  tops_within k d lt = within _ (Contains-append_right (tried_of app asked name proto) _ _ (rw (take_all (length asked.below.tops) asked.below.tops (omega arith)) (Contains-get_or asked.below.tops k d lt)))
+
+  -- their look-ups tell what a call can call
+  pub tried_row : (m n : ℕ) (tried tops : List ClassNo) → tried ≡ tried_of app asked name proto → tops ≡ asked.below.tops → AreEnough app name proto tops n
+      → row_of (length app.methods) ((begins app kind ++ map (look_at app name proto) tried) ++ map (look_at app name proto) (take n tops)) ≡ row_of (length app.methods) (found_virtually app m (named_parts kind name proto))
+  tried_row m n tried tops same equal enough =
+      ap₂ (λ (cs ts : List ClassNo). row_of (length app.methods) ((begins app kind ++ map (look_at app name proto) cs) ++ map (look_at app name proto) (take n ts))) same equal
+      ∙ ap (row_of (length app.methods)) (append_assoc (begins app kind) (map (look_at app name proto) (tried_of app asked name proto)) (map (look_at app name proto) (take n asked.below.tops)) ∙ ap (λ ns. begins app kind ++ ns) (sym (map-append (look_at app name proto) (tried_of app asked name proto) (take n asked.below.tops))))
+      ∙ row_same (length app.methods) _ _ (candidates_tell app sound kind name proto _ (candidates n (subst (λ ts. AreEnough app name proto ts n) equal enough)) m)

@@ -1,9 +1,10 @@
 -- What instructions use, instruction by instruction and method by method.
-use Rattle.std.proofs.Common.{◌≡◌, ℕ, zero, suc, ◌+◌, ◌<◌, ◌≤◌, false, List, [], ◌∷◌, ◌++◌, length, map, refl, sym, ap, ◌∙◌, inl, inr, ⊎_elim, arith, get_or, Option, Some, None, slice_get, subst}
-use Rattle.std.specs.Prelude.{◌⊎◌, if◌then◌else◌, filter_map, flat_map, slice_index_or}
+use Rattle.std.proofs.Common.{◌≡◌, ℕ, zero, suc, ◌+◌, ◌<◌, ◌≤◌, false, List, [], ◌∷◌, ◌++◌, length, refl, sym, ap, ◌∙◌, ⊎_elim, arith, Option, Some, None, subst}
+use Rattle.std.specs.Prelude.{if◌then◌else◌, filter_map, flat_map, slice_index_or}
 use Rattle.std.specs.List.{list_any, range_with_len}
 use Rattle.std.proofs.lemmas.Bool.{cases_lt}
-use Rattle.std.proofs.lemmas.List.{append-nil}
+use Rattle.std.proofs.lemmas.Grind.{flat_map-append}
+use Rattle.std.proofs.lemmas.List.{append-nil, get_or_append_left, get_or_push, length-append}
 use Rattle.std.proofs.lemmas.List.Elements.{filter_map-append}
 use Rattle.std.proofs.lemmas.Option.{same_Some}
 use Rattle.app_model.specs.declared.rows.Named.{Named}
@@ -13,42 +14,12 @@ use Rattle.app_model.specs.Targets.{CallAt, CallKey, call_of, callee_count, call
 use Rattle.app_model.specs.Words.{code_len}
 use Rattle.call_targets.specs.Numbered.{Adds, AddsCall, AddsMethods, AddsUse, AddsUses, AreUses, IsNumbered, IsSet, IsTable, IsUse, TableParts, call_at, calls_below, calls_from, entries_after}
 use Rattle.call_targets.specs.declared.numbers.SetRow.{SetRow}
+use Rattle.call_targets.proofs.Members.{get_grown}
 use Rattle.call_targets.proofs.Numbering.{Kept, adds_more, adds_none}
 
 range_more : (a n : ℕ) → range_with_len a (suc n) ≡ range_with_len a n ++ (a + n) ∷ []
 range_more a zero = ap (λ k. k ∷ []) (omega arith)
 range_more a (suc n) = ap (λ ks. a ∷ ks) (range_more (a + 1) n ∙ ap (λ k. range_with_len (a + 1) n ++ k ∷ []) (omega arith))
-
-flat_append : {X Y : Type 0} (f : X → List Y) (xs ys : List X) → flat_map f (xs ++ ys) ≡ flat_map f xs ++ flat_map f ys
-flat_append f [] ys = refl
-flat_append {Y = Y} f (x ∷ xs) ys = ap (λ zs. f x ++ zs) (flat_append f xs ys) ∙ sym (join (f x) (flat_map f xs) (flat_map f ys))
-  where
-    join : (a b c : List Y) → (a ++ b) ++ c ≡ a ++ (b ++ c)
-    join [] b c = refl
-    join (y ∷ a) b c = ap (λ zs. y ∷ zs) (join a b c)
-
-pub map_end : {X Y : Type 0} (f : X → Y) (xs : List X) (x : X) → map f (xs ++ x ∷ []) ≡ map f xs ++ f x ∷ []
-map_end f [] x = refl
-map_end f (y ∷ xs) x = ap (λ zs. f y ∷ zs) (map_end f xs x)
-
-get_push : {X : Type 0} (xs : List X) (x : X) (s : ℕ) (y : X) → slice_get (xs ++ x ∷ []) s ≡ Some y → (slice_get xs s ≡ Some y) ⊎ ((s ≡ length xs) × (x ≡ y))
-get_push [] x zero y e = inr (refl, same_Some x y e)
-get_push [] x (suc s) y e = absurd (cc)
-get_push (z ∷ xs) x zero y e = inl e
-get_push (z ∷ xs) x (suc s) y e = ⊎_elim (λ l. inl l) (λ r. inr (ap suc r.0, r.1)) (get_push xs x s y e)
-
-get_before : {X : Type 0} (xs : List X) (x d : X) (s : ℕ) → s < length xs → get_or (xs ++ x ∷ []) s d ≡ get_or xs s d
-get_before [] x d s lt = absurd (omega (arith, lt))
-get_before (y ∷ xs) x d zero lt = refl
-get_before (y ∷ xs) x d (suc s) lt = get_before xs x d s (omega (arith, lt))
-
-get_last : {X : Type 0} (xs : List X) (x d : X) → get_or (xs ++ x ∷ []) (length xs) d ≡ x
-get_last [] x d = refl
-get_last (y ∷ xs) x d = get_last xs x d
-
-len_push : {X : Type 0} (xs : List X) (x : X) → length (xs ++ x ∷ []) ≡ length xs + 1
-len_push [] x = refl
-len_push (y ∷ xs) x = omega (arith, len_push xs x)
 
 module _ (app : AppParts) where
   use_kept : (old new : List SetRow) → Kept app old new → (used : Option ℕ) (m i : ℕ) → IsUse app old used m i → IsUse app new used m i
@@ -97,11 +68,11 @@ module _ (app : AppParts) where
   uses_more m n old mid new uses used a b = record {
     adds = subst (λ calls. Adds app calls old new) (sym calls) (adds_more app (calls_from app m 0 n) (calls_from app m n 1) old mid new a.adds b.adds);
     are = record {
-      len = len_push uses used ∙ ap (λ k. k + 1) a.are.len;
+      len = length-append uses (used ∷ []) ∙ ap (λ k. k + 1) a.are.len;
       each = λ i u e. ⊎_elim
           (λ l. use_kept mid.rows new.rows b.adds.kept u m i (a.are.each i u l))
           (λ r. let at : n ≡ i = sym (r.0 ∙ a.are.len) in subst (λ k. IsUse app new.rows u m k) at (subst (λ x. IsUse app new.rows x m n) r.1 b.is))
-          (get_push uses used i u e);
+          (get_grown uses used i u e);
     };
   }
     where
@@ -119,11 +90,11 @@ module _ (app : AppParts) where
       → AddsMethods app (n + 1) old new (uses ++ row ∷ [])
   methods_more n old mid new uses row a b = record {
     adds = subst (λ calls. Adds app calls old new) (sym calls) (adds_more app (calls_below app n) (calls_from app n 0 (code_len app n)) old mid new a.adds b.adds);
-    len = len_push uses row ∙ ap (λ k. k + 1) a.len;
+    len = length-append uses (row ∷ []) ∙ ap (λ k. k + 1) a.len;
     are = λ m lt. ⊎_elim
-        (λ (less : m < n). subst (AreUses app new.rows m (code_len app m)) (sym (get_before uses row [] m (omega (arith, less, a.len)))) (uses_kept mid.rows new.rows b.adds.kept m _ _ (a.are m less)))
+        (λ (less : m < n). subst (AreUses app new.rows m (code_len app m)) (sym (get_or_append_left uses (row ∷ []) [] m (omega (arith, less, a.len)))) (uses_kept mid.rows new.rows b.adds.kept m _ _ (a.are m less)))
         (λ (ge : n ≤ m). let at : n ≡ m = omega (arith, lt, ge) in subst (λ k. AreUses app new.rows k (code_len app k) (slice_index_or (uses ++ row ∷ []) k [])) at
-        (subst (AreUses app new.rows n (code_len app n)) (sym (ap (λ k. get_or (uses ++ row ∷ []) k []) (sym a.len) ∙ get_last uses row [])) b.are))
+        (subst (AreUses app new.rows n (code_len app n)) (sym (get_or_push uses row [] n a.len)) b.are))
         (cases_lt m n);
   }
     where
@@ -131,7 +102,7 @@ module _ (app : AppParts) where
       calls =
           let e : n + 1 ≡ suc n = omega arith in
           let f : 0 + n ≡ n = omega arith in
-          ap (calls_below app) e ∙ ap (flat_map (calls_in app)) (range_more 0 n ∙ ap (λ k. range_with_len 0 n ++ k ∷ []) f) ∙ flat_append (calls_in app) (range_with_len 0 n) (n ∷ [])
+          ap (calls_below app) e ∙ ap (flat_map (calls_in app)) (range_more 0 n ∙ ap (λ k. range_with_len 0 n ++ k ∷ []) f) ∙ flat_map-append (calls_in app) (range_with_len 0 n) (n ∷ [])
           ∙ ap (λ cs. calls_below app n ++ cs) (append-nil (calls_in app n))
 
   from_after : (seen : List CallKey) (calls : List CallAt) → entries_after app (λ key. list_any (same_key key) seen) calls ≡ entries_from app seen calls

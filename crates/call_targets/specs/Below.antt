@@ -1,60 +1,113 @@
--- The classes of the application that a receiver of one type may have, and the roots among them.
-use Rattle.std.specs.Prelude.{ℕ, ◌≡◌, ◌<◌, not, Bool, true, false, List, length, map, Option, Some, None, is_none, slice_get, slice_index_or, Contains}
-use Rattle.std.specs.List.{All, list_any}
+-- The classes of the application that an object of one type may be of, found by a walk down from that type.
+use Rattle.std.specs.Prelude.{ℕ, ◌≡◌, ◌<◌, ◌⊎◌, ◌↔◌, ◌||◌, ◌&&◌, not, if◌then◌else◌, Bool, true, false, List, [], ◌∷◌, ◌++◌, length, Option, Some, None, option_map, is_none, is_some, filter_map, slice_get, slice_index_or, Contains}
 use Rattle.ns_base.specs.declared.rows.ClassNo.{ClassNo}
 use Rattle.ns_base.specs.declared.rows.TypeNo.{TypeNo}
-use Rattle.app_model.specs.Hierarchy.{class_of_type, may_be_sub, superclass_at}
+use Rattle.app_model.specs.Ancestors.{IsParent}
+use Rattle.app_model.specs.Hierarchy.{class_of_type, is_unknown, may_be_sub, parent_of, superclass_at}
 use Rattle.app_model.specs.Parts.{AppParts, ClassParts}
+use Rattle.class_graph.specs.Walks.{has_kind}
 
-pub record BelowParts : Type 0 where
-  pub marks : List Bool
-  pub roots : List ClassNo
+abbrev pub class_no : ℕ → ClassNo
+class_no c = record { 0 = c }
 
 abbrev pub may_be : AppParts → (kind : ℕ) → ClassParts → Bool
 may_be app kind class = may_be_sub app (Some class.name.0) kind
 
-abbrev pub AreMarks : AppParts → (kind : ℕ) → List Bool → Type 0
-AreMarks app kind marks = marks ≡ map (may_be app kind) app.classes
-
 -- class c may be of the type
-abbrev pub is_marked_at : List Bool → ℕ → Bool
-is_marked_at marks c = slice_index_or marks c false
+pub record IsBelow (app : AppParts) (kind c : ℕ) : Type 0 where
+  pub class : ClassParts
+  pub there : slice_get app.classes c ≡ Some class
+  pub may : may_be app kind class ≡ true
 
-abbrev pub is_marked_class : List Bool → ClassNo → Bool
-is_marked_class marks class = is_marked_at marks class.0
+-- ---- the classes right below each type, by their names
+abbrev pub right_below : List (List TypeNo) → ℕ → List TypeNo
+right_below lists t = slice_index_or lists t []
 
-abbrev pub may_be_at : AppParts → (kind c : ℕ) → Bool
-may_be_at app kind c = is_marked_at (map (may_be app kind) app.classes) c
+-- a class of that name has the type as a parent
+pub record IsChild (classes : List ClassParts) (t : ℕ) (u : TypeNo) : Type 0 where
+  pub class : ClassParts
+  pub there : Contains classes class
+  pub named : class.name ≡ u
+  pub parent : IsParent class t
 
--- nothing below it can answer for it: its superclass may not be of the type, or is none of the application's
-abbrev pub is_root_below : AppParts → (kind : ℕ) → Option ℕ → Bool
-is_root_below app kind None = not (is_none (class_of_type app.classes kind))
-is_root_below app kind (Some above) = not (may_be_at app kind above)
+pub record AreChildren (classes : List ClassParts) (types : ℕ) (lists : List (List TypeNo)) : Type 0 where
+  pub len : length lists ≡ types
+  pub told : (t : ℕ) (u : TypeNo) → Contains (right_below lists t) u ↔ IsChild classes t u
 
-abbrev pub is_root : AppParts → (kind c : ℕ) → Bool
-is_root app kind c = is_root_below app kind (superclass_at app.classes c)
+-- a class was put under such types
+pub record Puts (Under : ℕ → Type 0) (class : TypeNo) (old new : List (List TypeNo)) : Type 0 where
+  pub len : length new ≡ length old
+  pub told : (t : ℕ) (u : TypeNo) → Contains (right_below new t) u ↔ (Contains (right_below old t) u ⊎ (Under t × (class ≡ u)))
 
--- the roots among the first n classes
-pub record AreRoots (app : AppParts) (kind n : ℕ) (roots : List ClassNo) : Type 0 where
-  pub each : All (λ (c : ClassNo). may_be_at app kind c.0 ≡ true) roots
-  pub full : (c : ℕ) → c < n → may_be_at app kind c ≡ true → is_root app kind c ≡ true → Contains roots (record { 0 = c })
+-- ---- a walk: how many types there are, and which were met
+pub record WalkParts : Type 0 where
+  pub types : ℕ
+  pub kinds : List TypeNo
 
-pub record IsBelow (app : AppParts) (kind : ℕ) (below : BelowParts) : Type 0 where
-  pub marks : AreMarks app kind below.marks
-  pub roots : AreRoots app kind (length app.classes) below.roots
+abbrev pub walk_of : (types : ℕ) → List TypeNo → WalkParts
+walk_of types kinds = record { types = types; kinds = kinds }
 
--- ---- classes that are decided
-abbrev pub mark_in : Option (Option Bool) → Option Bool
-mark_in None = None
-mark_in (Some mark) = mark
+-- it begins with the type, and where that is none of the application's with each of which the files say nothing
+abbrev pub IsStart : AppParts → (kind bound t : ℕ) → Type 0
+IsStart app kind bound t = (t ≡ kind) ⊎ ((class_of_type app.classes kind ≡ None) × (t < bound) × (is_unknown app t ≡ true))
 
-abbrev pub AreDecided : AppParts → (kind : ℕ) → List (Option Bool) → Type 0
-AreDecided app kind marks = (c : ℕ) (mark : Bool) → mark_in (slice_get marks c) ≡ Some mark → mark ≡ may_be_at app kind c
+-- types that may be of this one were met: where it begins, as far as the bound, and what is right below the first n that were met
+pub record IsWalked (app : AppParts) (kind bound n : ℕ) (kinds : List TypeNo) : Type 0 where
+  pub starts : (t : ℕ) → IsStart app kind bound t → has_kind kinds t ≡ true
+  pub only : (u : ℕ) → has_kind kinds u ≡ true → may_be_sub app (Some u) kind ≡ true
+  pub down : (k : ℕ) (t u : TypeNo) → k < n → slice_get kinds k ≡ Some t → IsChild app.classes t.0 u → has_kind kinds u.0 ≡ true
 
--- an object of the superclass, or of an interface, may be of the type
-abbrev pub super_may : AppParts → (kind : ℕ) → Option TypeNo → Bool
-super_may app kind None = false
-super_may app kind (Some u) = may_be_sub app (Some u.0) kind
+-- the classes that were met are those that may be of the type
+abbrev pub TellsBelow : AppParts → (kind : ℕ) → List TypeNo → Type 0
+TellsBelow app kind kinds = (class : ClassParts) → Contains app.classes class → has_kind kinds class.name.0 ≡ may_be app kind class
 
-abbrev pub any_may : AppParts → (kind : ℕ) → List TypeNo → Bool
-any_may app kind kinds = list_any (λ (u : TypeNo). may_be_sub app (Some u.0) kind) kinds
+-- ---- roots: classes whose superclass is one of the application's and was not met; where few were met, all of these
+abbrev pub is_met : List TypeNo → Option TypeNo → Bool
+is_met kinds None = false
+is_met kinds (Some t) = has_kind kinds t.0
+
+abbrev pub is_root : AppParts → List TypeNo → (few : Bool) → ClassNo → Bool
+is_root app kinds few c = few || (is_some (superclass_at app.classes c.0) && not (is_met kinds (parent_of (slice_get app.classes c.0))))
+
+abbrev pub root_from : AppParts → List TypeNo → (few : Bool) → Option ClassNo → Option ClassNo
+root_from app kinds few None = None
+root_from app kinds few (Some c) = if is_root app kinds few c then Some c else None
+
+abbrev pub with_some : List ClassNo → Option ClassNo → List ClassNo
+with_some cs None = cs
+with_some cs (Some c) = cs ++ c ∷ []
+
+abbrev pub class_at : AppParts → TypeNo → Option ClassNo
+class_at app t = option_map class_no (class_of_type app.classes t.0)
+
+abbrev pub roots_of : AppParts → (few : Bool) → List TypeNo → List TypeNo → List ClassNo
+roots_of app few kinds some = filter_map (λ t. root_from app kinds few (class_at app t)) some
+
+-- tops: those with no superclass in the application. What they inherit is outside
+abbrev pub top_from : AppParts → Option ClassNo → Option ClassNo
+top_from app None = None
+top_from app (Some c) = if is_none (superclass_at app.classes c.0) then Some c else None
+
+abbrev pub tops_of : AppParts → List TypeNo → List ClassNo
+tops_of app kinds = filter_map (λ t. top_from app (class_at app t)) kinds
+
+pub record BelowParts : Type 0 where
+  pub walk : WalkParts
+  pub few : Bool
+  pub roots : List ClassNo
+  pub tops : List ClassNo
+
+-- what is known of the classes below a type; tops are told where the type is one of the application's
+pub record IsReady (app : AppParts) (kind : ℕ) (below : BelowParts) : Type 0 where
+  pub types : below.walk.types ≡ length app.types
+  pub tells : TellsBelow app kind below.walk.kinds
+  pub roots : below.roots ≡ roots_of app below.few below.walk.kinds below.walk.kinds
+  pub tops : below.tops ≡ (if below.few || is_none (class_of_type app.classes kind) then [] else tops_of app below.walk.kinds)
+
+-- a class that was met
+abbrev pub is_met_row : List TypeNo → Option ClassParts → Bool
+is_met_row kinds None = false
+is_met_row kinds (Some class) = has_kind kinds class.name.0
+
+abbrev pub is_met_class : AppParts → List TypeNo → ClassNo → Bool
+is_met_class app kinds c = is_met_row kinds (slice_get app.classes c.0)

@@ -1,5 +1,5 @@
 -- Calls, numbered by the sets that they share.
-use Rattle.std.specs.Prelude.{ℕ, ◌≡◌, ◌<◌, ◌+◌, ◌*◌, ◌==◌, ◌||◌, ◌&&◌, if◌then◌else◌, Bool, List, [], ◌∷◌, ◌++◌, filter_map, length, Option, Some, None, is_some, option_map, flat_map, slice_get, slice_index_or}
+use Rattle.std.specs.Prelude.{ℕ, ◌≡◌, ◌<◌, ◌+◌, ◌*◌, ◌==◌, ◌||◌, ◌&&◌, if◌then◌else◌, Bool, List, [], ◌∷◌, ◌++◌, filter_map, length, Option, Some, None, is_some, flat_map, slice_get, slice_index_or}
 use Rattle.std.specs.List.{range_with_len}
 use Rattle.std.specs.Map.{lookup}
 use Rattle.std.specs.Option.{option_eq}
@@ -30,17 +30,17 @@ abbrev pub number_in : List (Key × ℕ) → Key → Option ℕ
 number_in keys key = lookup (same_parts key) keys
 
 -- ---- what a set stands for
-abbrev pub row_of_set : AppParts → Option SetRow → TargetParts
-row_of_set app None = no_targets
-row_of_set app (Some row) = row_from app row.source
-
-abbrev pub row_in : AppParts → List SetRow → ℕ → TargetParts
-row_in app rows s = row_of_set app (slice_get rows s)
+-- set s is there, and it is that of this source
+pub record HasSource (rows : List SetRow) (source : Source) (s : ℕ) : Type 0 where
+  pub set : SetRow
+  pub there : slice_get rows s ≡ Some set
+  pub is : set.source ≡ source
 
 -- set s is there, and is this one
 pub record IsSet (app : AppParts) (rows : List SetRow) (targets : TargetParts) (s : ℕ) : Type 0 where
-  pub there : s < length rows
-  pub is : row_in app rows s ≡ targets
+  pub set : SetRow
+  pub there : slice_get rows s ≡ Some set
+  pub is : row_from app set.source ≡ targets
 
 -- what an instruction uses is what it can call
 abbrev pub IsUse : AppParts → List SetRow → Option ℕ → (m i : ℕ) → Type 0
@@ -69,12 +69,9 @@ abbrev pub entries_with : AppParts → TableParts → List CallAt → ℕ
 entries_with app table calls = weigh app table.rows + entries_after app (has_key table.keys) calls
 
 -- ---- a table of calls
-abbrev pub source_in : List SetRow → ℕ → Option Source
-source_in rows s = option_map (λ (row : SetRow). row.source) (slice_get rows s)
-
 pub record IsTable (app : AppParts) (table : TableParts) : Type 0 where
   pub keys : (m op : ℕ) (named : Named) (s : ℕ) → number_in table.keys (key_parts (key_of app m op named)) ≡ Some s → IsSet app table.rows (targets_of_call app m op named) s
-  pub sources : (source : Source) (s : ℕ) → lookup (same_source source) table.sources ≡ Some s → source_in table.rows s ≡ Some source
+  pub sources : (source : Source) (s : ℕ) → lookup (same_source source) table.sources ≡ Some s → HasSource table.rows source s
 
 -- from one table to a next one, which has more calls
 pub record Adds (app : AppParts) (calls : List CallAt) (old new : TableParts) : Type 0 where
@@ -84,7 +81,7 @@ pub record Adds (app : AppParts) (calls : List CallAt) (old new : TableParts) : 
 
 -- the same for a source alone
 pub record AddsSource (app : AppParts) (source : Source) (old new : TableParts) (s : ℕ) : Type 0 where
-  pub there : source_in new.rows s ≡ Some source
+  pub there : HasSource new.rows source s
   pub table : IsTable app new
   pub kept : (k : ℕ) (targets : TargetParts) → IsSet app old.rows targets k → IsSet app new.rows targets k
   pub keys : new.keys ≡ old.keys

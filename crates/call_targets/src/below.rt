@@ -1,23 +1,30 @@
-//! The classes of the application that a receiver of one type may have.
-ghost use Rattle.std.specs.Prelude.{◌≡◌, ◌<◌, ◌++◌, IfOk, None, Some, length, replicate, slice_get};
+//! The classes of the application that an object of one type may be of, found by a walk down from it.
+ghost use Rattle.std.specs.Prelude.{◌≡◌, ◌<◌, ◌++◌, ◌||◌, if◌then◌else◌, IfOk, [], None, filter_map, is_none, length, slice_get};
 ghost use Rattle.std.specs.List.{filter};
-ghost use Rattle.class_graph.specs.Belongs.{IsClassGraph};
-ghost use Rattle.app_model.specs.Hierarchy.{may_be_sub};
-ghost use Rattle.call_targets.specs.Below.{AreDecided, any_may, mark_in, may_be_at, super_may, AreMarks, AreRoots, IsBelow, is_marked_class, is_root};
+ghost use Rattle.app_model.specs.Hierarchy.{class_of_type, parent_of};
+ghost use Rattle.app_model.specs.Sound.{IsType};
+ghost use Rattle.call_targets.specs.Below.{AreChildren, IsReady, IsWalked, TellsBelow, class_at, is_met, is_met_class, is_root, root_from, roots_of, top_from, tops_of, with_some};
 
+use crate::children::Children;
+use crate::walk::Walk;
 use app_model::App;
-use class_graph::ClassGraph;
+use class_graph::is_unknown;
 use ns_base::{ClassNo, TypeNo};
 use std::alloc::{AllocError, Global};
 use std::marker::Model;
 
-/// A mark for each class that an object of one type may be of, and the roots among these: those whose
-/// superclass is a class of the application that is not marked. Where the type is one of the
-/// application's, those without a superclass in it are roots too.
+/// So few classes are all looked up, and not only those that declare the method.
+const FEW: usize = 8;
+
+/// The classes that were met on a walk down from a type, and those of them from which the others inherit:
+/// roots, whose superclass was not met, and tops, which have none in the application. Where few were met,
+/// all of them are roots.
 #[derive(Drop)]
 pub(crate) struct Below {
-    marks: Vec<bool>,
+    walk: Walk,
+    few: bool,
     roots: Vec<ClassNo>,
+    tops: Vec<ClassNo>,
 }
 
 impl Model for Below {
@@ -25,227 +32,223 @@ impl Model for Below {
 
     ghost Value = { BelowParts };
 
-    ghost view = { λ b. record { marks = b.marks.items; roots = b.roots.items } };
+    ghost view = { λ b. record { walk = b.walk; few = b.few; roots = b.roots.items; tops = b.tops.items } };
 }
 
-// The mark of a class, where it is decided.
-fn mark_of(marks: &[Option<bool>], class: ClassNo) -> Option<bool>
-    ensures { result ≡ mark_in (slice_get marks.now class.0) }
+// All types of which the files say nothing.
+fn meet_unknown(app: &App, walk: &mut Walk, kind: TypeNo) -> Result<(), AllocError>
+    requires types { walk.old.types ≡ length app.now.types }
+    requires outside { class_of_type app.now.classes kind.0 ≡ None }
+    requires walked { IsWalked app.now kind.0 0 0 walk.old.kinds }
+    ensures types { IfOk result (λ done. walk.new.types ≡ walk.old.types) }
+    ensures walked { IfOk result (λ done. IsWalked app.now kind.0 (length app.now.types) 0 walk.new.kinds) }
 {
-    match marks.get(class.0 as usize) {
-        Some(mark) => *mark,
-        None => None,
+    app.told();
+    for t in 0..app.type_count() {
+        if is_unknown(app, TypeNo(t)) {
+            walk.meet(TypeNo(t))?;
+        }
+    }
+    Ok(())
+}
+
+// The types with which a walk begins. Each type that is asked for is one of the tables'; another would be
+// taken for want of memory.
+fn begin(app: &App, walk: &mut Walk, kind: TypeNo) -> Result<(), AllocError>
+    requires types { walk.old.types ≡ length app.now.types }
+    ensures types { IfOk result (λ done. walk.new.types ≡ walk.old.types) }
+    ensures walked { IfOk result (λ done. IsWalked app.now kind.0 (length app.now.types) 0 walk.new.kinds) }
+{
+    app.told();
+    if kind.0 >= app.type_count() {
+        return Err(AllocError);
+    }
+    walk.restart()?;
+    walk.meet(kind)?;
+    match app.class_of_type(kind) {
+        Some(_) => Ok(()),
+        None => meet_unknown(app, walk, kind),
     }
 }
 
-// Whether a parent may be of the type: by the mark of its class where that is decided, and else by asking.
-fn parent_may(
+// From each type that was met to those right below it. A walk never has as many as can be counted.
+fn walk_down(
     app: &App,
-    classes: &ClassGraph,
-    marks: &[Option<bool>],
+    children: &Children,
+    walk: &mut Walk,
     kind: TypeNo,
-    parent: TypeNo,
-) -> bool
-    requires graph { IsClassGraph app.now classes.now }
-    requires marks { AreDecided app.now kind.0 marks.now }
-    ensures { result ≡ may_be_sub app.now (Some parent.0) kind.0 }
+) -> Result<(), AllocError>
+    requires children { AreChildren app.now.classes (length app.now.types) children.now }
+    requires types { walk.old.types ≡ length app.now.types }
+    ensures types { IfOk result (λ done. walk.new.types ≡ walk.old.types) }
+    ensures tells { IfOk result (λ done. TellsBelow app.now kind.0 walk.new.kinds) }
 {
-    let Some(class) = app.class_of_type(parent) else {
-        return classes.maybe_sub(parent, kind);
-    };
-    match mark_of(marks, class) {
-        Some(mark) => mark,
-        None => classes.maybe_sub(parent, kind),
+    app.told();
+    begin(app, walk, kind)?;
+    for place in 0..usize::MAX {
+        if place >= walk.kinds().len() {
+            return Ok(());
+        }
+        walk.meet_all(children.below(walk.kinds()[place]))?;
     }
+    Err(AllocError)
 }
 
-fn super_may(
-    app: &App,
-    classes: &ClassGraph,
-    marks: &[Option<bool>],
-    kind: TypeNo,
-    parent: Option<TypeNo>,
-) -> bool
-    requires graph { IsClassGraph app.now classes.now }
-    requires marks { AreDecided app.now kind.0 marks.now }
-    ensures { result ≡ super_may app.now kind.0 parent }
+#[tactic(auto, using(crate::proofs::Roots::class_told))]
+fn class_at(app: &App, kind: TypeNo) -> Option<ClassNo>
+    ensures { result ≡ class_at app.now kind }
 {
-    match parent {
-        Some(parent) => parent_may(app, classes, marks, kind, parent),
+    app.class_of_type(kind)
+}
+
+fn parent_met(app: &App, walk: &Walk, class: ClassNo) -> bool
+    requires { walk.now.types ≡ length app.now.types }
+    ensures { result ≡ is_met walk.now.kinds (parent_of (slice_get app.now.classes class.0)) }
+{
+    if class.0 >= app.class_count() {
+        return false;
+    }
+    match app.class(class).parent {
+        Some(parent) => walk.has(parent),
         None => false,
     }
 }
 
-fn any_may(
-    app: &App,
-    classes: &ClassGraph,
-    marks: &[Option<bool>],
-    kind: TypeNo,
-    parents: &[TypeNo],
-) -> bool
-    requires graph { IsClassGraph app.now classes.now }
-    requires marks { AreDecided app.now kind.0 marks.now }
-    ensures { result ≡ any_may app.now kind.0 parents.now }
+fn is_root(app: &App, walk: &Walk, few: bool, class: ClassNo) -> bool
+    requires { walk.now.types ≡ length app.now.types }
+    ensures { result ≡ is_root app.now walk.now.kinds few class }
 {
-    for i in 0..parents.len() {
-        if parent_may(app, classes, marks, kind, parents[i]) {
-            return true;
-        }
+    few || (app.superclass(class).is_some() && !parent_met(app, walk, class))
+}
+
+// Adds a class, if there is one.
+fn push_some(classes: &mut Vec<ClassNo>, class: Option<ClassNo>) -> Result<(), AllocError>
+    ensures { IfOk result (λ done. classes.new.items ≡ with_some classes.old.items class) }
+{
+    if let Some(class) = class {
+        classes.push(class)?;
     }
-    false
+    Ok(())
 }
 
-// Whether a class may be of the type: it has its name, or a parent may be.
-fn class_may(
-    app: &App,
-    classes: &ClassGraph,
-    marks: &[Option<bool>],
-    kind: TypeNo,
-    class: ClassNo,
-) -> bool
-    requires class { class.0 < length app.now.classes }
-    requires graph { IsClassGraph app.now classes.now }
-    requires marks { AreDecided app.now kind.0 marks.now }
-    ensures { result ≡ may_be_at app.now kind.0 class.0 }
+fn root_at(app: &App, walk: &Walk, few: bool, kind: TypeNo) -> Option<ClassNo>
+    requires { walk.now.types ≡ length app.now.types }
+    ensures { result ≡ root_from app.now walk.now.kinds few (class_at app.now kind) }
 {
-    app.told();
-    let row = app.class(class);
-    let named = row.name.0 == kind.0;
-    let below = super_may(app, classes, marks, kind, row.parent);
-    let brought = any_may(app, classes, marks, kind, &row.interfaces);
-    named | (below | brought)
-}
-
-fn no_marks(alloc: Global, count: usize) -> Result<Vec<Option<bool>>, AllocError>
-    ensures { IfOk result (λ marks. marks.items ≡ replicate count None) }
-{
-    let mut marks = Vec::with_capacity(alloc, count)?;
-    for _place in 0..count {
-        marks.push(None)?;
-    }
-    Ok(marks)
-}
-
-// Marks for the classes of an order, which only says what to look at first.
-fn first_marks(
-    alloc: Global,
-    app: &App,
-    classes: &ClassGraph,
-    order: &[ClassNo],
-    kind: TypeNo,
-) -> Result<Vec<Option<bool>>, AllocError>
-    requires { IsClassGraph app.now classes.now }
-    ensures { IfOk result (λ marks. AreDecided app.now kind.0 marks.items) }
-{
-    let mut marks = no_marks(alloc, app.class_count() as usize)?;
-    for i in 0..order.len() {
-        let class = order[i];
-        if class.0 < app.class_count() && (class.0 as usize) < marks.len() {
-            let mark = class_may(app, classes, &marks, kind, class);
-            marks[class.0 as usize] = Some(mark);
-        }
-    }
-    Ok(marks)
-}
-
-fn marks_of(
-    alloc: Global,
-    app: &App,
-    classes: &ClassGraph,
-    order: &[ClassNo],
-    kind: TypeNo,
-) -> Result<Vec<bool>, AllocError>
-    requires { IsClassGraph app.now classes.now }
-    ensures { IfOk result (λ marks. AreMarks app.now kind.0 marks.items) }
-{
-    let first = first_marks(alloc, app, classes, order, kind)?;
-    let mut marks = Vec::with_capacity(alloc, app.class_count() as usize)?;
-    for c in 0..app.class_count() {
-        marks.push(class_may(app, classes, &first, kind, ClassNo(c)))?;
-    }
-    Ok(marks)
-}
-
-// Whether a class that is marked is a root.
-fn is_root(app: &App, marks: &[bool], kind: TypeNo, class: ClassNo) -> bool
-    requires { AreMarks app.now kind.0 marks.now }
-    ensures { result ≡ is_root app.now kind.0 class.0 }
-{
-    match app.superclass(class) {
-        Some(above) => !marks[above.0 as usize],
-        None => app.class_of_type(kind).is_some(),
+    match class_at(app, kind) {
+        Some(class) if is_root(app, walk, few, class) => Some(class),
+        _ => None,
     }
 }
 
-fn roots_of(
-    alloc: Global,
-    app: &App,
-    marks: &[bool],
-    kind: TypeNo,
-) -> Result<Vec<ClassNo>, AllocError>
-    requires { AreMarks app.now kind.0 marks.now }
-    ensures { IfOk result (λ roots. AreRoots app.now kind.0 (length app.now.classes) roots.items) }
+fn find_roots(alloc: Global, app: &App, walk: &Walk, few: bool) -> Result<Vec<ClassNo>, AllocError>
+    requires { walk.now.types ≡ length app.now.types }
+    ensures { IfOk result (λ roots. roots.items ≡ roots_of app.now few walk.now.kinds walk.now.kinds) }
 {
+    let kinds = walk.kinds();
     let mut roots = Vec::new(alloc);
-    for c in 0..app.class_count() {
-        let class = ClassNo(c);
-        if marks[c as usize] && is_root(app, marks, kind, class) {
-            roots.push(class)?;
-        }
+    for i in 0..kinds.len() {
+        push_some(&mut roots, root_at(app, walk, few, kinds[i]))?;
     }
     Ok(roots)
 }
 
-/// The classes that an object of a type may be of.
-pub(crate) fn find_below(
+fn top_at(app: &App, kind: TypeNo) -> Option<ClassNo>
+    ensures { result ≡ top_from app.now (class_at app.now kind) }
+{
+    match class_at(app, kind) {
+        Some(class) if app.superclass(class).is_none() => Some(class),
+        _ => None,
+    }
+}
+
+fn find_tops(
     alloc: Global,
     app: &App,
-    classes: &ClassGraph,
-    order: &[ClassNo],
+    walk: &Walk,
+    few: bool,
     kind: TypeNo,
-) -> Result<Below, AllocError>
-    requires { IsClassGraph app.now classes.now }
-    ensures { IfOk result (IsBelow app.now kind.0) }
+) -> Result<Vec<ClassNo>, AllocError>
+    ensures { IfOk result (λ tops. tops.items ≡ (if few || is_none (class_of_type app.now.classes kind.0) then [] else tops_of app.now walk.now.kinds)) }
 {
-    let marks = marks_of(alloc, app, classes, order, kind)?;
-    let roots = roots_of(alloc, app, &marks, kind)?;
-    Ok(Below { marks, roots })
+    let mut tops = Vec::new(alloc);
+    if few || app.class_of_type(kind).is_none() {
+        return Ok(tops);
+    }
+    let kinds = walk.kinds();
+    for i in 0..kinds.len() {
+        push_some(&mut tops, top_at(app, kinds[i]))?;
+    }
+    Ok(tops)
 }
 
 impl Below {
-    /// No classes.
-    pub fn none(alloc: Global) -> Below {
-        Below {
-            marks: Vec::new(alloc),
+    /// Nothing yet.
+    pub fn new(alloc: Global, app: &App) -> Result<Below, AllocError>
+        ensures { IfOk result (λ below. below.walk.types ≡ length app.now.types) }
+    {
+        Ok(Below {
+            walk: Walk::new(alloc, app.type_count() as usize)?,
+            few: false,
             roots: Vec::new(alloc),
-        }
+            tops: Vec::new(alloc),
+        })
     }
 
-    /// The roots, and those of the declaring classes that are marked. What a look-up finds in any
-    /// marked class, one in these finds.
+    /// Finds the classes below a type.
+    pub fn find(
+        &mut self,
+        alloc: Global,
+        app: &App,
+        children: &Children,
+        kind: TypeNo,
+    ) -> Result<(), AllocError>
+        requires children { AreChildren app.now.classes (length app.now.types) children.now }
+        requires types { self.old.walk.types ≡ length app.now.types }
+        ensures { IfOk result (λ done. IsReady app.now kind.0 self.new) }
+    {
+        walk_down(app, children, &mut self.walk, kind)?;
+        self.few = self.walk.kinds().len() <= FEW;
+        self.roots = find_roots(alloc, app, &self.walk, self.few)?;
+        self.tops = find_tops(alloc, app, &self.walk, self.few, kind)?;
+        Ok(())
+    }
+
+    /// The classes from which the others inherit nothing that is not outside.
+    pub fn tops(&self) -> &[ClassNo]
+        ensures { result.now ≡ self.now.tops }
+    {
+        self.tops.as_slice()
+    }
+
+    fn is_met(&self, app: &App, class: ClassNo) -> bool
+        requires { self.now.walk.types ≡ length app.now.types }
+        ensures { result ≡ is_met_class app.now self.now.walk.kinds class }
+    {
+        class.0 < app.class_count() && self.walk.has(app.class(class).name)
+    }
+
+    /// The roots, and those of the declaring classes that were met. What a look-up finds in any class that
+    /// was met it finds in one of these, or it ends outside from a top.
     #[tactic(auto, using(crate::proofs::Roots::passed_on, crate::proofs::Roots::passed_over))]
     pub fn candidates(
         &self,
         alloc: Global,
+        app: &App,
         declaring: &[ClassNo],
     ) -> Result<Vec<ClassNo>, AllocError>
-        ensures { IfOk result (λ classes. classes.items ≡ self.now.roots ++ filter (is_marked_class self.now.marks) declaring.now) }
+        requires { self.now.walk.types ≡ length app.now.types }
+        ensures { IfOk result (λ classes. classes.items ≡ self.now.roots ++ (if self.now.few then [] else filter (is_met_class app.now self.now.walk.kinds) declaring.now)) }
     {
         let mut classes = self.roots.to_vec(alloc)?;
+        if self.few {
+            return Ok(classes);
+        }
         for i in 0..declaring.len() {
-            if self.is_marked(declaring[i]) {
+            if self.is_met(app, declaring[i]) {
                 classes.push(declaring[i])?;
             }
         }
         Ok(classes)
-    }
-
-    fn is_marked(&self, class: ClassNo) -> bool
-        ensures { result ≡ is_marked_class self.now.marks class }
-    {
-        match self.marks.get(class.0 as usize) {
-            Some(mark) => *mark,
-            None => false,
-        }
     }
 }

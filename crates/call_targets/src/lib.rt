@@ -2,8 +2,8 @@
 //!
 //! - `sources` tells what decides what a call can call, `declared` which classes declare a method.
 //! - `numbers` goes over the instructions once and numbers the sets that calls share.
-//! - `order` has the classes with their parents first.
-//! - `below` has the classes that a receiver may have, and `found` makes a set of what look-ups find.
+//! - `children` has the classes right below each type, `walk` meets types once, and `below` finds with
+//!   both the classes that a receiver may have. `found` makes a set of what look-ups find.
 //! - `laws` has what holds of every call.
 //! - `looking` looks up one set, and `making` makes them all, and counts their entries.
 //!
@@ -12,6 +12,7 @@
 
 mod below;
 mod building;
+mod children;
 mod declared;
 mod fault;
 mod found;
@@ -19,8 +20,8 @@ mod laws;
 mod looking;
 mod making;
 mod numbers;
-mod order;
 mod sources;
+mod walk;
 
 pub use building::targets;
 pub use call_reach::{assigns, reach};

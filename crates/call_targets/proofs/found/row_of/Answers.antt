@@ -11,4 +11,4 @@ pub returns : goal.returns
 returns c methods all =
     ap₂ (λ (ms : List MethodNo) (b : Bool). let row : TargetParts = record { callees = ms; outside = b } in row)
     (c.in_ok-callees.ensures ∙ ap (map method_no) (c.deref.ensures.value ∙ dedup_is eqb c.sort_unstable.new.self.items c.dedup.new.self.items c.dedup.ensures.filtered)) c.leads_outside.ensures
-    ∙ row_made methods c.args.found.now c.sort_unstable.new.self.items (subst (λ (xs : List ℕ). IsPermutation xs c.sort_unstable.new.self.items) c.in_ok-numbers.ensures c.sort_unstable.ensures.permutation) c.sort_unstable.ensures.sorted all
+    ∙ row_made methods c.args.found.now c.sort_unstable.new.self.items (subst (λ (xs : List ℕ). IsPermutation xs c.sort_unstable.new.self.items) c.in_ok-numbers.ensures c.sort_unstable.ensures.permutation) all c.sort_unstable.ensures.sorted

@@ -1,4 +1,4 @@
-use Rattle.call_targets.proofs.Calls.{tells_calls}
+use Rattle.call_targets.proofs.Receivers.{tells_calls}
 use Rattle.call_targets.proofs.laws.call_law.Goals as goal
 
 pub returns : goal.returns

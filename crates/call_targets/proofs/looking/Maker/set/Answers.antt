@@ -5,7 +5,8 @@ use Rattle.app_model.specs.Targets.{found_virtually, row_of}
 use Rattle.class_graph.specs.declared.graph.Found.TheVariants as variant
 use Rattle.call_targets.specs.Sources.{found_by, named_parts}
 use Rattle.call_targets.proofs.Look.{row_found}
-use Rattle.call_targets.proofs.Tried.{IsWithin, look_within}
+use Rattle.call_targets.proofs.Receivers.{look_within}
+use Rattle.call_targets.proofs.Tried.{IsWithin}
 use Rattle.call_targets.proofs.looking.Maker.set.Goals as goal
 
 pub returns-in-Some-clause-row : goal.returns-in-Some-clause-row
