@@ -1,6 +1,7 @@
 //! Small applications for tests that cross crates: from the bytes of a DEX file over reading and linking to what is found
 //! of its code. `data/` has the applications as texts and as the files that `tools/assemble.py` makes of them.
 #![tactic(auto)]
+
 ghost use Rattle.std.specs.Prelude.{◌≤◌, IfOk, length};
 ghost use Rattle.ns_base.specs.Answers.{limit_of};
 ghost use Rattle.ns_base.specs.declared.answers.Counted.TheVariants.{Sites};
@@ -24,6 +25,7 @@ use tag_flow::{TagFault, tags};
 mod tests;
 
 /// Why there is no subject. Whatever comes before its tags counts as want of memory.
+#[derive(Drop)]
 pub enum Stop {
     Early,
     Tags(TagFault),

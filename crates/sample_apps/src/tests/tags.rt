@@ -8,7 +8,8 @@ use tag_flow::TagFault;
 
 const RECEIVER: &str = "[[component]]\nkind = \"receiver\"\nclass = \"Lapp/R;\"\n";
 
-const ACTIVITY: &str = "[[component]]\nkind = \"activity\"\nclass = \"Lapp/A;\"\n[[component]]\nkind = \"runnable\"\nclass = \"Lapp/A$1;\"\n";
+const ACTIVITY: &str =
+    "[[component]]\nkind = \"activity\"\nclass = \"Lapp/A;\"\n[[component]]\nkind = \"runnable\"\nclass = \"Lapp/A$1;\"\n";
 
 const WL: Tag = Tag::Field(LockNo(0));
 
@@ -26,10 +27,22 @@ static IN_RECEIVER: [Row; 16] = [
     ("a lock as an argument", (0, 0, 0), WL),
     ("and behind the call of the method itself", (0, 1, 0), WL),
     ("a lock that was an argument", (2, 11, 0), WL),
-    ("the result of a method that gives nothing", (2, 11, 6), Tag::Zero),
-    ("two callees of which one gives a lock", (2, 12, 6), Tag::Mixed),
+    (
+        "the result of a method that gives nothing",
+        (2, 11, 6),
+        Tag::Zero,
+    ),
+    (
+        "two callees of which one gives a lock",
+        (2, 12, 6),
+        Tag::Mixed,
+    ),
     ("and the register that takes it", (2, 13, 1), Tag::Mixed),
-    ("a register behind a call that never returns", (2, 14, 0), WL),
+    (
+        "a register behind a call that never returns",
+        (2, 14, 0),
+        WL,
+    ),
     ("the result of that call", (2, 14, 6), Tag::Bot),
     ("past the registers", (2, 14, 7), Tag::Bot),
 ];
@@ -38,36 +51,53 @@ static IN_ACTIVITY: [Row; 6] = [
     ("what the getter of an inner class gives", (4, 3, 0), WL),
     ("whether it is held", (4, 5, 1), Tag::Held(LockNo(0))),
     ("the same before a release", (2, 4, 1), Tag::Held(LockNo(0))),
-    ("and where a release may have come before", (2, 5, 1), Tag::Any),
+    (
+        "and where a release may have come before",
+        (2, 5, 1),
+        Tag::Any,
+    ),
     ("the word of a getter", (0, 0, 0), Tag::Any),
     ("a field that is no lock", (4, 1, 0), Tag::Any),
 ];
 
-fn has_tags(rt: &HostRuntime, file: &str, list: &str, rows: &[Row]) -> Result<(), Fail> {
+static UNLISTED: [Row; 2] = [
+    ("not reached", (2, 0, 3), Tag::Bot),
+    ("nor this", (0, 0, 0), Tag::Bot),
+];
+
+// What is the first row with another tag.
+fn first_wrong(
+    rt: &HostRuntime,
+    file: &str,
+    list: &str,
+    rows: &[Row],
+) -> Result<Option<&'static str>, Fail> {
     let app = read_app(rt, file)?;
     let Ok(table) = tags_of(rt.alloc(), &app, list.as_bytes()) else {
         return Err("there is memory".into());
     };
     for (what, (method, index, register), tag) in rows.iter() {
-        assert_eq!(rt; table.tag(MethodNo(*method), *index, *register), *tag, "{what}");
+        if table.tag(MethodNo(*method), *index, *register) != *tag {
+            return Ok(Some(*what));
+        }
     }
-    Ok(())
+    Ok(None)
 }
 
 #[test]
 fn tags_follow_calls_and_callees(rt: HostRuntime) -> Result<(), Fail> {
-    has_tags(&rt, "tags.dex", RECEIVER, &IN_RECEIVER)?;
-    has_tags(&rt, "inner_class.dex", ACTIVITY, &IN_ACTIVITY)
+    assert_eq!(rt; first_wrong(&rt, "tags.dex", RECEIVER, &IN_RECEIVER)?, None);
+    assert_eq!(rt;
+        first_wrong(&rt, "inner_class.dex", ACTIVITY, &IN_ACTIVITY)?,
+        None
+    );
+    Ok(())
 }
 
 #[test]
 fn nothing_is_known_where_no_callback_is_listed(rt: HostRuntime) -> Result<(), Fail> {
-    has_tags(
-        &rt,
-        "tags.dex",
-        "",
-        &[("not reached", (2, 0, 3), Tag::Bot), ("nor this", (0, 0, 0), Tag::Bot)],
-    )
+    assert_eq!(rt; first_wrong(&rt, "tags.dex", "", &UNLISTED)?, None);
+    Ok(())
 }
 
 #[test]
