@@ -1,6 +1,6 @@
 #!/bin/sh
 # Measures the class hierarchy, the targets of calls and what calls assign, beside reading and linking the same file, in
-# one run: on a chain of classes, on interfaces that cross, each also at four times the size, on as many entries as the limit
+# one run: on a chain of classes, on interfaces that cross, on classes apart, each also at four times the size, on as many entries as the limit
 # and one more (which has to be refused), and on files that are named.
 # Needs rt and python3. Prints seconds, medians of five turns, and the ratio of hierarchy and targets to reading.
 #
@@ -17,7 +17,7 @@ mkdir -p "$work/crates/call_times/proofs/link_file"
 cp "$top/bench/call_times/link_file.antt.in" "$work/crates/call_times/proofs/link_file/Answers.antt"
 touch "$work/crates/call_times/proofs/Lib.antt"
 
-for shape in chain crossing; do
+for shape in chain crossing apart; do
     for count in 2000 8000; do
         PYTHONDONTWRITEBYTECODE=1 python3 "$top/bench/make_hierarchy.py" $shape $count "$work/$shape-$count.dex"
     done
@@ -29,6 +29,7 @@ build_on "$work/chain-2000.dex"
 
 PYTHONDONTWRITEBYTECODE=1 python3 - "$work/crates/call_times/out/call_times" \
     "$work/chain-2000.dex" "$work/chain-8000.dex" "$work/crossing-2000.dex" "$work/crossing-8000.dex" \
+    "$work/apart-2000.dex" "$work/apart-8000.dex" \
     "$work/entries-16777216.dex" "$work/entries-16777217.dex" "$@" <<'PYTHON'
 import os, statistics, subprocess, sys
 

@@ -1,11 +1,12 @@
 #!/usr/bin/env python3
 """Writes a DEX 035 file whose class hierarchy is hard on whoever asks it, with a call of `f` on every class.
 
-usage: make_hierarchy.py chain|crossing|entries|sample COUNT OUT
+usage: make_hierarchy.py chain|crossing|apart|entries|sample COUNT OUT
 
 chain: COUNT classes, each the subclass of the one before it; every eighth one declares `f`.
 crossing: COUNT interfaces, each below the one before it and the seventh before it; of each hundredth one there is a class
 with a method `f`.
+apart: COUNT classes with no superclass among them, which all declare `f`.
 entries: a call graph of COUNT entries, at least 16,776,528: 5,792 classes in a chain that all declare `f`, and static calls.
 sample: a small application with each kind of call; COUNT is not used.
 """
@@ -44,6 +45,13 @@ def crossing(count):
             classes.append(Class(f"Lc/{i:06};", PUBLIC, OBJECT, (rows[-1].name,), SOURCE))
             declare(classes[-1])
     return rows + classes, ON_INTERFACE
+
+
+def apart(count):
+    rows = [Class(f"Lc/{i:06};", PUBLIC, OBJECT, (), SOURCE) for i in range(count)]
+    for row in rows:
+        declare(row)
+    return rows, VIRTUAL
 
 
 def entries(count):
@@ -129,7 +137,7 @@ def file_of(rows, opcode, statics=0):
 
 def main():
     shape, count, out = sys.argv[1:]
-    shapes = {"chain": chain, "crossing": crossing, "entries": entries}
+    shapes = {"chain": chain, "crossing": crossing, "apart": apart, "entries": entries}
     with open(out, "wb") as file:
         file.write(sample() if shape == "sample" else file_of(*shapes[shape](int(count))))
 
