@@ -131,6 +131,12 @@ unfolding holds row_len word
 at_place t m e i s h =
     ⊎_elim (λ l. l) (λ past. absurd (let z = get_or_past (get_or t.code m []) i 0 past in none_has e s (rw z at h))) (cases_lt i (length (get_or t.code m [])))
 
+-- a view is of a component that has a place
+pub view_place : (t : Facts) (c q s : ℕ) → holds t (View c q s) ≡ true → c < row_len t.ends 2
+unfolding holds row_len word
+view_place t c q s h =
+    ⊎_elim (λ l. l) (λ past. absurd (let z = get_or_past (get_or t.ends 2 []) c 0 past in none_has q s (rw z at h))) (cases_lt c (length (get_or t.ends 2 [])))
+
 -- words that were read
 pub at_is : (t : Facts) (m i e s w : ℕ) → w ≡ word t.code m i → has w e s ≡ holds t (At m e i s)
 unfolding holds

@@ -62,7 +62,7 @@ module _ (rules : RulesBy) where
     done = λ _. j.there;
   }
 
-  room_le : (goal : AllMasks → Facts → Type 0) (m n : AllMasks) (a b : Facts) (x : Bool) → Turn rules goal m n a b x → facts_room b ≤ facts_room a
+  pub room_le : (goal : AllMasks → Facts → Type 0) (m n : AllMasks) (a b : Facts) (x : Bool) → Turn rules goal m n a b x → facts_room b ≤ facts_room a
   room_le goal m n a b x t = ⊎_elim (λ yes. let l = t.falls yes in omega arith) (λ off. let e = ap facts_room (t.same off) in omega arith) (cases_Bool x)
 
   -- the next part after the first ones
@@ -109,12 +109,12 @@ module _ (rules : RulesBy) where
 
   -- parts that promise little
   pub keeps_none : (m : AllMasks) (t : Facts) → Keeps rules m m t t
-  keeps_none m t = record { masks = refl; below = λ given b. b; kept = λ f h. h; size = size_same t }
+  keeps_none m t = record { masks = refl; below = λ given b. b; kept = λ f h. h; size = size_same t; room = omega arith }
 
   pub keeps_turn : (goal : AllMasks → Facts → Type 0) (m n : AllMasks) (a b : Facts) (x : Bool) → Turn rules goal m n a b x → Keeps rules m n a b
-  keeps_turn goal m n a b x t = record { masks = t.masks; below = t.below; kept = t.kept; size = t.size }
+  keeps_turn goal m n a b x t = record { masks = t.masks; below = t.below; kept = t.kept; size = t.size; room = room_le goal m n a b x t }
 
   pub keeps_more : (k m n : AllMasks) (a b c : Facts) → Keeps rules k m a b → Keeps rules m n b c → Keeps rules k n a c
   keeps_more k m n a b c t u =
       let v : Keeps rules k n b c = subst (λ (z : AllMasks). Keeps rules z n b c) t.masks u in
-      record { masks = v.masks; below = λ given h. v.below given (t.below given h); kept = λ f h. v.kept f (t.kept f h); size = size_more a b c t.size v.size }
+      record { masks = v.masks; below = λ given h. v.below given (t.below given h); kept = λ f h. v.kept f (t.kept f h); size = size_more a b c t.size v.size; room = (let p = t.room in let q = v.room in omega arith) }

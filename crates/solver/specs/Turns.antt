@@ -1,5 +1,5 @@
 -- What a part of a sweep does to the facts. Rules may depend on masks, which somebody else answers.
-use Rattle.std.specs.Prelude.{◌≡◌, ℕ, ◌<◌, Bool, true, false, List, [], ◌∷◌, length}
+use Rattle.std.specs.Prelude.{◌≡◌, ℕ, ◌<◌, ◌≤◌, Bool, true, false, List, [], ◌∷◌, length}
 use Rattle.app_model.specs.Facts.{Fact}
 use Rattle.app_model.specs.Subject.{SubjectParts, IsSubject, is_reached, slot_count}
 use Rattle.app_model.specs.Words.{code_len}
@@ -38,6 +38,7 @@ pub record Keeps (rules : RulesBy) (was now : AllMasks) (old new : Facts) : Type
   pub below : (given : Set) → IsBelow rules was given old → IsBelow rules was given new
   pub kept : (f : Fact) → holds old f ≡ true → holds new f ≡ true
   pub size : SameSize old new
+  pub room : facts_room new ≤ facts_room old
 
 -- a fact follows by one rule
 pub record Follows (rules : List Fact → Fact → Type 0) (t : Facts) (f : Fact) : Type 0 where

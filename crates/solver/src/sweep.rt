@@ -1,10 +1,10 @@
 //! Sweeps over all instructions, until one adds nothing.
-ghost use Rattle.std.specs.Prelude.{◌≡◌, ◌<◌, true, length, OnOk, [], ◌∷◌};
+ghost use Rattle.std.specs.Prelude.{◌≡◌, ◌<◌, ◌≤◌, true, length, OnOk, [], ◌∷◌};
 ghost use Rattle.app_model.specs.Facts.{Fact};
 ghost use Rattle.app_model.specs.Subject.{slot_count};
 ghost use Rattle.flow_model.specs.Derived.{Derived, IsLeast};
 ghost use Rattle.flow_model.specs.Rules.{Inside};
-ghost use Rattle.solution.specs.Facts.{holds, HasPlaces};
+ghost use Rattle.solution.specs.Facts.{holds, facts_room, HasPlaces};
 ghost use Rattle.solver.specs.Turns.{Step, AreFacts};
 ghost use Rattle.solver.specs.Visits.{MethodVisited, AllVisited, Nothing};
 
@@ -73,6 +73,7 @@ fn sweep_all<R: Rows>(
     ensures kept { (f : Fact) → holds solution.old f ≡ true → holds solution.new f ≡ true }
     ensures sound { (f : Fact) → holds solution.new f ≡ true → Derived (Inside task.now.subject.now task.now.lock.0 (R.masks rows.old task.now.subject.now task.now.lock.0)) (holds solution.old) (f ∷ []) }
     ensures places { HasPlaces task.now.subject.now solution.new }
+    ensures room { facts_room solution.new ≤ facts_room solution.old }
     ensures rows { R.masks rows.new ≡ R.masks rows.old }
 {
     approach(alloc, task, rows, solution)?;
@@ -99,6 +100,7 @@ pub fn solve_calls<R: Rows>(
     ensures kept { (f : Fact) → holds solution.old f ≡ true → holds solution.new f ≡ true }
     ensures sound { (f : Fact) → holds solution.new f ≡ true → Derived (Inside subject.now lock.0 (R.masks rows.old subject.now lock.0)) (holds solution.old) (f ∷ []) }
     ensures places { HasPlaces subject.now solution.new }
+    ensures room { facts_room solution.new ≤ facts_room solution.old }
     ensures rows { R.masks rows.new ≡ R.masks rows.old }
 {
     subject.told();

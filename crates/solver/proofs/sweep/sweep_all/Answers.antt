@@ -1,5 +1,5 @@
-use Rattle.std.proofs.Common.{◌∙◌}
-use Rattle.solver.proofs.Turns.{facts_kept, round_falls}
+use Rattle.std.proofs.Common.{◌∙◌, arith}
+use Rattle.solver.proofs.Turns.{facts_kept, room_le, round_falls}
 use Rattle.solver.proofs.Closed.{given_below, least_at}
 use Rattle.solver.proofs.sweep.sweep_all.Goals as goal
 
@@ -14,6 +14,7 @@ loop-changed-init g c =
       below = up.below _ (k.below _ (given_below _ _ _));
       kept = λ f h. up.kept f (k.kept f h);
       facts = facts_kept _ _ _ _ up.size (facts_kept _ _ _ _ k.size c.requires);
+      room = omega (arith, k.room, room_le _ _ _ _ _ _ _ up);
       masks = up.masks;
       done = up.done;
     }
@@ -46,6 +47,7 @@ loop-changed-preserved g c =
       below = up.below _ (down.below _ c.loop-changed.invariant.below);
       kept = λ f h. up.kept f (down.kept f (c.loop-changed.invariant.kept f h));
       facts = facts_kept _ _ _ _ up.size (facts_kept _ _ _ _ down.size c.loop-changed.invariant.facts);
+      room = omega (arith, c.loop-changed.invariant.room, room_le _ _ _ _ _ _ _ up, room_le _ _ _ _ _ _ _ down);
       masks = up.masks;
       done = up.done;
     }
@@ -67,3 +69,9 @@ returns-clause-places g c = c.loop-changed.invariant.facts.places
 
 pub returns-clause-rows : goal.returns-clause-rows
 returns-clause-rows g c = c.loop-changed.invariant.masks
+
+pub returns-in_err-approach-clause-room : goal.returns-in_err-approach-clause-room
+returns-in_err-approach-clause-room g c = c.approach.ensures.room
+
+pub returns-clause-room : goal.returns-clause-room
+returns-clause-room g c = c.loop-changed.invariant.room
