@@ -1,0 +1,6 @@
+pub mod Lifecycles
+pub mod Relations
+pub mod Callbacks
+pub mod Moves
+pub mod Closed
+pub mod Rounds
