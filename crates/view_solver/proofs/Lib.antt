@@ -4,3 +4,4 @@ pub mod Callbacks
 pub mod Moves
 pub mod Closed
 pub mod Rounds
+pub mod Judged

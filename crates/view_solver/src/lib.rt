@@ -2,11 +2,14 @@
 //!
 //! - `edges` has the edges of a component's lifecycle, `carrying` where they lead the statuses.
 //! - `moving` applies the rules between callbacks; `solving` takes turns with those inside.
+//! - `judging` lists the violations.
 #![tactic(auto)]
 
 mod carrying;
 mod edges;
+mod judging;
 mod moving;
 mod solving;
 
+pub use judging::violations;
 pub use solving::solve;
