@@ -1,13 +1,12 @@
 -- What a word joined into a table does to the facts.
-use Rattle.std.proofs.Common.{◌≡◌, ◌≢◌, ℕ, ◌+◌, ◌*◌, ◌<◌, ◌≤◌, Bool, true, false, length, get_or, [], refl, sym, ap, ◌∙◌, inl, inr, ⊎_elim, arith}
+use Rattle.std.proofs.Common.{◌≡◌, ℕ, ◌+◌, ◌*◌, ◌<◌, Bool, true, length, get_or, [], refl, ap, ◌∙◌, inl, inr, ⊎_elim, arith}
 use Rattle.std.specs.Prelude.{◌⊎◌}
-use Rattle.std.specs.Int.{bit_at}
 use Rattle.std.proofs.lemmas.Bool.{cases_lt}
 use Rattle.std.proofs.lemmas.List.{get_or_past}
 use Rattle.app_model.specs.Facts.{Fact, View, At, Ret, Exc}
 use Rattle.solution.specs.Words.{has, AreRows, IsOne}
-use Rattle.solution.specs.Table.{Rows, word, row_len, room, Ors}
-use Rattle.solution.specs.Facts.{Facts, holds, facts_room, Joins, SameSize, Adds}
+use Rattle.solution.specs.Table.{Rows, word, row_len, Ors}
+use Rattle.solution.specs.Facts.{Facts, holds, facts_room, Joins, Adds}
 use Rattle.solution.proofs.Bits.{has_true, has_from, none_has}
 
 -- statuses of a word

@@ -1,5 +1,5 @@
 -- A sweep that changes nothing leaves a closed set.
-use Rattle.std.proofs.Common.{◌≡◌, ℕ, true, List, [], ◌∷◌, ◌∙◌}
+use Rattle.std.proofs.Common.{◌≡◌, ℕ, true, List, ◌∙◌}
 use Rattle.app_model.specs.Facts.{Fact, At}
 use Rattle.app_model.specs.Subject.{SubjectParts}
 use Rattle.flow_model.specs.Derived.{Set, is_given, all_done, HasAll, IsLeast}

@@ -1,5 +1,5 @@
 -- Places of a subject's code.
-use Rattle.std.proofs.Common.{◌≡◌, ℕ, ◌<◌, ◌≤◌, ◌-◌, ◌^◌, List, [], Bool, true, false, cond, length, get_or, Option, Some, None, Contains, refl, sym, ap, ◌∙◌, ⊎_elim, arith}
+use Rattle.std.proofs.Common.{◌≡◌, ℕ, ◌<◌, ◌≤◌, ◌^◌, List, true, false, cond, length, get_or, Option, Some, None, Contains, refl, sym, ap, ◌∙◌, ⊎_elim, arith}
 use Rattle.std.specs.Prelude.{slice_get}
 use Rattle.std.specs.List.{All}
 use Rattle.std.proofs.lemmas.Bool.{cases_lt, cases_Bool, false≢true}
@@ -13,7 +13,7 @@ use Rattle.app_model.specs.Subject.{SubjectParts, IsSubject, is_reached, callees
 use Rattle.app_model.specs.Words.{no_body, places_of, place_at, code_len, successor_at, successor_of, handler_at, handler_of}
 use Rattle.solution.specs.Facts.{Facts, place_count}
 use Rattle.solution.specs.Table.{row_len}
-use Rattle.solver.specs.Turns.{AreFacts, IsPlace, HasPlace}
+use Rattle.solver.specs.Turns.{AreFacts, HasPlace}
 
 module _ (x : SubjectParts) (sound : IsSubject x) where
   body_is : (m : ℕ) → m < length x.app.code → (registers : ℕ) × IsBody registers (places_of x.app m)

@@ -5,11 +5,10 @@ use Rattle.std.proofs.lemmas.Bool.{or_parts, or_cases, cases_Bool, cases_lt, fal
 use Rattle.app_model.specs.Facts.{Fact}
 use Rattle.app_model.specs.Subject.{SubjectParts}
 use Rattle.flow_model.specs.Derived.{Derived, by_rule, all_done, HasAll}
-use Rattle.flow_model.specs.Subject.{Masks}
 use Rattle.flow_model.proofs.Laws.{one_more}
 use Rattle.solution.specs.Facts.{Facts, holds, facts_room, SameSize, Joins, HasPlaces}
 use Rattle.solution.specs.Words.{has}
-use Rattle.solver.specs.Turns.{AllMasks, RulesBy, Turn, Keeps, Each, Every, Follows, IsBelow, AreFacts, HasPlace}
+use Rattle.solver.specs.Turns.{AllMasks, RulesBy, Turn, Keeps, Each, Every, Follows, AreFacts, HasPlace}
 
 -- facts of a set of derived ones are derived together
 pub all_derived : (rules : List Fact → Fact → Type 0) (given set : Fact → Bool) → ((f : Fact) → set f ≡ true → Derived rules given (f ∷ [])) → (fs : List Fact) → HasAll set fs → Derived rules given fs

@@ -1,5 +1,5 @@
 -- The rules from the facts of an instruction, whose word is `w`.
-use Rattle.std.proofs.Common.{arith, ◌<◌, ◌≤◌, ◌≡◌, ℕ, Bool, true, false, [], ◌∷◌, Some, refl, sym, ap, ◌∙◌, List, length, get_or, eqb, subst, Contains, ⊎_elim}
+use Rattle.std.proofs.Common.{arith, ◌<◌, ◌≡◌, ℕ, Bool, true, false, [], ◌∷◌, Some, refl, sym, ap, ◌∙◌, List, length, get_or, eqb, subst, Contains, ⊎_elim}
 use Rattle.std.specs.Prelude.{◌||◌}
 use Rattle.std.proofs.lemmas.Bool.{cases_Bool, eqb-true}
 use Rattle.std.proofs.lemmas.List.{get_or_default}
@@ -9,7 +9,7 @@ use Rattle.app_model.specs.Masks.{in_mask}
 use Rattle.app_model.specs.Subject.{SubjectParts, callees_at}
 use Rattle.app_model.specs.Words.{successor_at, handler_at, leaves_at}
 use Rattle.flow_model.specs.Rules.{Inside, I1, I1_return, I2, I3, I3_leaves, C1, C2, C3, C3_leaves}
-use Rattle.flow_model.specs.Subject.{own_operation, is_open, returns_at}
+use Rattle.flow_model.specs.Subject.{own_operation, returns_at}
 use Rattle.solution.specs.Facts.{Facts, holds, Joins}
 use Rattle.solution.specs.Words.{has, IsMask, AreRows, Joined, Itself}
 use Rattle.solution.proofs.Bits.{has_true, none_has}

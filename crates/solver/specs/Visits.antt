@@ -1,5 +1,5 @@
 -- What is done for an instruction: `w` is the word of its facts, a row for each entry status.
-use Rattle.std.specs.Prelude.{◌≡◌, ℕ, ◌<◌, Bool, true, List, Some, Contains, length, slice_index_or}
+use Rattle.std.specs.Prelude.{◌≡◌, ℕ, Bool, true, List, Some, Contains, length, slice_index_or}
 use Rattle.ns_base.specs.declared.rows.MethodNo.{MethodNo}
 use Rattle.app_model.specs.Facts.{Fact, At, Ret, Exc}
 use Rattle.app_model.specs.Masks.{in_mask}

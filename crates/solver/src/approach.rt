@@ -21,7 +21,6 @@ fn entries(task: &Task, solution: &Solution, method: MethodNo) -> u64
     requires facts { AreFacts task.now.subject.now task.now.lock.0 solution.now }
     requires reached { is_reached task.now.subject.now method.0 ≡ true }
 {
-    let _ = task.lock;
     solution.at_word(method, 0)
 }
 

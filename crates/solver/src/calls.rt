@@ -15,7 +15,6 @@ fn enter(task: &Task, solution: &mut Solution, site: Site, opened: u64, callee: 
     requires opened { IsOpenAt task.now.subject.now task.now.lock.0 solution.old site.method.0 site.index opened }
     ensures { Still task.now.subject.now task.now.lock.0 (Entered opened callee.0) solution.old solution.new result }
 {
-    let _ = (task.lock, site);
     solution.join_at(callee, 0, itself(all_of(opened)))
 }
 

@@ -16,7 +16,6 @@ fn throw_to(task: &Task, solution: &mut Solution, site: Site, thrown: u64, way: 
     ensures turn { WhereThrown task.now.subject.now task.now.lock.0 site.method.0 site.index thrown (ThrownTo task.now.subject.now site.method.0 site.index thrown way.number) solution.old solution.new result }
     ensures size { SameSize solution.old solution.new }
 {
-    let _ = task.lock;
     solution.join_at(site.method, way.to, thrown)
 }
 

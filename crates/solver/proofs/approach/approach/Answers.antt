@@ -1,4 +1,4 @@
-use Rattle.solver.proofs.Turns.{keeps_none, keeps_more, facts_kept}
+use Rattle.solver.proofs.Turns.{facts_kept}
 use Rattle.solver.proofs.approach.approach.Goals as goal
 
 pub look-requires : goal.look-requires

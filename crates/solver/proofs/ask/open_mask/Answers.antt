@@ -1,5 +1,4 @@
-use Rattle.std.proofs.Common.{◌<◌, arith}
-use Rattle.solver.specs.Visits.{Opens}
+use Rattle.std.proofs.Common.{arith}
 use Rattle.solution.proofs.Bits.{mask_none, mask_more, mask_end, mask_true}
 use Rattle.solver.proofs.ask.open_mask.Goals as goal
 

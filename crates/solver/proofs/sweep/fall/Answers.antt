@@ -1,4 +1,3 @@
-use Rattle.std.proofs.Common.{arith}
 use Rattle.solver.proofs.Turns.{turn_none, turn_next, facts_kept}
 use Rattle.solver.proofs.sweep.fall.Goals as goal
 

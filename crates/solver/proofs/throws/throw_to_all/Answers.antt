@@ -1,4 +1,4 @@
-use Rattle.std.proofs.Common.{sym, ◌∙◌, arith}
+use Rattle.std.proofs.Common.{sym, arith}
 use Rattle.solver.proofs.Places.{handler_none, handler_last}
 use Rattle.solver.proofs.Turns.{turn_start, turn_more, turn_every, place_kept, size_same, size_more}
 use Rattle.solver.proofs.Visits.{thrown_kept}

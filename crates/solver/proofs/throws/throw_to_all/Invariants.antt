@@ -1,4 +1,4 @@
-use Rattle.solver.specs.Turns.{Each, Turn, AllMasks, InsideBy}
+use Rattle.solver.specs.Turns.{Each}
 use Rattle.solution.specs.Facts.{SameSize}
 use Rattle.solver.specs.Visits.{WhereThrown, ThrownTo}
 use Rattle.solver.proofs.throws.throw_to_all.Given as goal
