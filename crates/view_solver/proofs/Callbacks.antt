@@ -1,5 +1,5 @@
 -- What is read of a callback.
-use Rattle.std.proofs.Common.{◌≡◌, ℕ, Option, Some, None, sym}
+use Rattle.std.proofs.Common.{◌≡◌, ℕ, Some, None, sym}
 use Rattle.std.specs.Prelude.{option_map, List}
 use Rattle.ns_base.specs.declared.rows.MethodNo.{MethodNo}
 use Rattle.app_model.specs.Components.{ComponentParts, callback_at}

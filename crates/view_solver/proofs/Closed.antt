@@ -1,6 +1,5 @@
 -- Sets that are closed under all rules.
-use Rattle.std.proofs.Common.{◌≡◌, ℕ, ◌<◌, true, List, [], ◌∷◌, refl, sym, subst, inl, inr}
-use Rattle.std.specs.Prelude.{◌⊎◌, length}
+use Rattle.std.proofs.Common.{◌≡◌, ℕ, true, List, [], ◌∷◌, sym, subst, inl, inr}
 use Rattle.app_model.specs.Facts.{Fact, View}
 use Rattle.app_model.specs.Subject.{SubjectParts}
 use Rattle.flow_model.specs.Derived.{Set, Derived, by_rule, all_done, HasAll, IsClosed, IsLeast}

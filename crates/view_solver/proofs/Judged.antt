@@ -1,12 +1,11 @@
 -- Violations, by masks and in lists.
-use Rattle.std.proofs.Common.{◌≡◌, ℕ, ◌+◌, ◌*◌, ◌<◌, ◌≤◌, Bool, true, false, cond, List, [], ◌∷◌, ◌++◌, Some, None, length, get_or, Contains, AllPairs, refl, sym, ap, ◌∙◌, subst, inl, inr, ⊎_elim, arith, append-nil}
-use Rattle.std.specs.Prelude.{◌⊎◌, ◌↔◌}
-use Rattle.std.proofs.lemmas.Bool.{cases_Bool, cases_lt, false≢true}
+use Rattle.std.proofs.Common.{◌≡◌, ℕ, ◌+◌, ◌*◌, ◌<◌, Bool, true, false, List, [], ◌∷◌, ◌++◌, Some, None, length, get_or, Contains, refl, sym, ap, ◌∙◌, subst, inl, inr, ⊎_elim, arith, append-nil}
+use Rattle.std.proofs.lemmas.Bool.{cases_lt, false≢true}
 use Rattle.std.proofs.lemmas.List.Elements.{Contains-push, Contains-push_cases, Contains-append_left, All-contains_itself}
 use Rattle.std.proofs.lemmas.List.Quantifiers.{all_pairs_push}
 use Rattle.app_model.specs.Components.{edge_at, exits_at}
 use Rattle.app_model.specs.Facts.{Fact, View}
-use Rattle.app_model.specs.Masks.{in_mask, held_statuses, is_held}
+use Rattle.app_model.specs.Masks.{in_mask, held_statuses}
 use Rattle.app_model.specs.Subject.{SubjectParts, answers_at}
 use Rattle.app_model.specs.declared.component.Edge.{Edge}
 use Rattle.flow_model.specs.Derived.{Derived, HasAll, Set, IsLeast}

@@ -1,12 +1,11 @@
 -- The rules between callbacks, and their starts, by words.
-use Rattle.std.proofs.Common.{◌≡◌, ◌≢◌, ℕ, ◌+◌, ◌<◌, Bool, true, false, List, [], ◌∷◌, Option, Some, None, length, refl, sym, ap, ◌∙◌, subst, inl, inr, arith}
-use Rattle.std.specs.Prelude.{◌||◌, ◌⊎◌}
+use Rattle.std.proofs.Common.{◌≡◌, ◌≢◌, ℕ, ◌<◌, Bool, true, false, List, [], ◌∷◌, Option, Some, None, length, refl, sym, ap, ◌∙◌, subst, inl, inr, arith}
+use Rattle.std.specs.Prelude.{◌||◌}
 use Rattle.app_model.specs.Components.{edge_at, callback_at}
-use Rattle.app_model.specs.Facts.{Fact, View, At, Ret}
+use Rattle.app_model.specs.Facts.{Fact, View, At}
 use Rattle.app_model.specs.Masks.{in_mask}
 use Rattle.app_model.specs.Subject.{SubjectParts}
 use Rattle.app_model.specs.declared.component.Edge.{Edge}
-use Rattle.flow_model.specs.Derived.{HasAll}
 use Rattle.flow_model.specs.Rules.{Between, V1, V2, V3, V4, V5, Carries, entered}
 use Rattle.solution.specs.Facts.{Facts, holds, Joins}
 use Rattle.solution.specs.Words.{has, IsMask, AreRows, IsShifted, IsOne, Joined, Itself, Leads}

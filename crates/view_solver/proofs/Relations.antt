@@ -1,5 +1,5 @@
 -- Words as relations: where edges enter, and what they carry.
-use Rattle.std.proofs.Common.{◌≡◌, ℕ, ◌+◌, ◌*◌, ◌<◌, ◌≤◌, Bool, true, false, cond, eqb, List, [], ◌∷◌, Some, None, refl, sym, ap, ◌∙◌, subst, ⊎_elim, inl, inr, arith}
+use Rattle.std.proofs.Common.{◌≡◌, ℕ, ◌+◌, ◌*◌, ◌<◌, Bool, true, false, cond, eqb, List, [], ◌∷◌, Some, None, refl, sym, ap, ◌∙◌, subst, ⊎_elim, inl, inr, arith}
 use Rattle.std.specs.Prelude.{not, nat_lt, ◌⊎◌, bit_or}
 use Rattle.std.proofs.lemmas.Bool.{cases_Bool, cases_lt, ltb-true, eqb-true, eq-eqb, true≢false, false≢true}
 use Rattle.app_model.specs.Components.{edge_at, callback_at}
@@ -13,7 +13,7 @@ use Rattle.flow_model.specs.Status.{reset}
 use Rattle.flow_model.proofs.TestLaws.{below_some}
 use Rattle.solution.specs.Facts.{Facts, holds}
 use Rattle.solution.specs.Words.{has, AreRows, Joined, Itself}
-use Rattle.solution.proofs.Bits.{has_true, has_from, none_has, none_in}
+use Rattle.solution.proofs.Bits.{has_true, has_from, none_has}
 use Rattle.solution.proofs.Ors.{or_bit, or_left, or_right}
 use Rattle.view_solver.specs.Views.{EnteredBy, Carried, MovesBy, MovesBelow, Moves}
 

@@ -1,5 +1,5 @@
 -- The violations of one lock field.
-use Rattle.std.specs.Prelude.{ℕ, ◌≡◌, ◌<◌, ◌+◌, ◌*◌, ◌↔◌, Bool, true, false, List, [], ◌∷◌, Some, AllPairs, Contains, if◌then◌else◌}
+use Rattle.std.specs.Prelude.{ℕ, ◌≡◌, ◌<◌, ◌+◌, ◌*◌, ◌↔◌, Bool, true, List, [], ◌∷◌, Some, AllPairs, Contains, if◌then◌else◌}
 use Rattle.app_model.specs.Components.{edge_at}
 use Rattle.app_model.specs.Facts.{Fact, View}
 use Rattle.app_model.specs.Subject.{SubjectParts}

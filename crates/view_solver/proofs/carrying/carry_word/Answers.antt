@@ -1,5 +1,3 @@
-use Rattle.std.proofs.Common.{sym}
-use Rattle.solver.proofs.Places.{method_there}
 use Rattle.view_solver.proofs.Relations.{carry_outside, carry_method}
 use Rattle.view_solver.proofs.Callbacks.{callback_none, callback_some}
 use Rattle.view_solver.proofs.carrying.carry_word.Goals as goal

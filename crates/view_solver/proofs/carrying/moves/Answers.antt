@@ -1,4 +1,4 @@
-use Rattle.std.proofs.Common.{◌<◌, arith}
+use Rattle.std.proofs.Common.{arith}
 use Rattle.view_solver.proofs.Relations.{moves_start, moves_more, moves_end}
 use Rattle.view_solver.proofs.carrying.moves.Goals as goal
 

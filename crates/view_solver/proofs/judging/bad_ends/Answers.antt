@@ -1,4 +1,4 @@
-use Rattle.std.proofs.Common.{sym, ◌∙◌}
+use Rattle.std.proofs.Common.{sym}
 use Rattle.view_solver.proofs.Judged.{bad_none, bad_some}
 use Rattle.view_solver.proofs.judging.bad_ends.Goals as goal
 

@@ -1,5 +1,5 @@
 use Rattle.std.proofs.Common.{sym}
-use Rattle.view_solver.proofs.Judged.{ends_none, ends_other, ends_one}
+use Rattle.view_solver.proofs.Judged.{ends_none, ends_one}
 use Rattle.view_solver.proofs.judging.edge_ends.Goals as goal
 
 pub carry_word-requires : goal.carry_word-requires

@@ -1,4 +1,4 @@
-use Rattle.std.proofs.Common.{◌<◌, arith}
+use Rattle.std.proofs.Common.{arith}
 use Rattle.solution.proofs.Bits.{mask_none, mask_more, mask_end}
 use Rattle.view_solver.proofs.judging.ends.Goals as goal
 

@@ -1,4 +1,4 @@
-use Rattle.std.proofs.Common.{◌+◌, ◌*◌}
+use Rattle.std.proofs.Common.{◌*◌}
 use Rattle.view_solver.specs.Judged.{AreListed}
 use Rattle.view_solver.proofs.judging.list_all.Given as goal
 

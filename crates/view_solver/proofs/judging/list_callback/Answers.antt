@@ -1,4 +1,4 @@
-use Rattle.std.proofs.Common.{refl, arith, ◌≡◌, ◌+◌, ◌*◌}
+use Rattle.std.proofs.Common.{refl, arith}
 use Rattle.view_solver.proofs.Judged.{next_listed, listed_at}
 use Rattle.view_solver.proofs.judging.list_callback.Goals as goal
 

@@ -2,7 +2,6 @@ use Rattle.solver.proofs.Places.{first_in}
 use Rattle.solver.proofs.Turns.{turn_none}
 use Rattle.view_solver.proofs.Moves.{start_turn}
 use Rattle.view_solver.proofs.Callbacks.{callback_none, callback_some}
-use Rattle.std.proofs.Common.{sym, ◌∙◌}
 use Rattle.view_solver.proofs.moving.start.Goals as goal
 
 pub returns-in_default : goal.returns-in_default

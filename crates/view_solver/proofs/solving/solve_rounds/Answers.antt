@@ -1,4 +1,4 @@
-use Rattle.std.proofs.Common.{◌∙◌, ◌≡◌, true, false, refl, subst, sym}
+use Rattle.std.proofs.Common.{◌∙◌, refl}
 use Rattle.solver.proofs.Turns.{facts_kept}
 use Rattle.view_solver.proofs.Closed.{whole_below, whole_least, least_closed}
 use Rattle.view_solver.proofs.Rounds.{places_facts, round_falls, still_closed}

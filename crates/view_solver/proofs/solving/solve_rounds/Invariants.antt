@@ -1,4 +1,4 @@
-use Rattle.std.proofs.Common.{◌≡◌, ◌+◌, ◌*◌, true, false, cond}
+use Rattle.std.proofs.Common.{◌≡◌, ◌+◌, ◌*◌, false, cond}
 use Rattle.flow_model.specs.Derived.{IsClosed}
 use Rattle.flow_model.specs.Policy.{none_given}
 use Rattle.flow_model.specs.Rules.{Inside}
