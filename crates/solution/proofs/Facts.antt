@@ -1,13 +1,12 @@
 -- What a word joined into a table does to the facts.
-use Rattle.std.proofs.Common.{◌≡◌, ◌≢◌, ℕ, ◌+◌, ◌*◌, ◌<◌, ◌≤◌, Bool, true, false, length, get_or, [], refl, sym, ap, ◌∙◌, inl, inr, ⊎_elim, arith}
+use Rattle.std.proofs.Common.{◌≡◌, ℕ, ◌+◌, ◌*◌, ◌<◌, Bool, true, length, get_or, [], refl, ap, ◌∙◌, inl, inr, ⊎_elim, arith}
 use Rattle.std.specs.Prelude.{◌⊎◌}
-use Rattle.std.specs.Int.{bit_at}
 use Rattle.std.proofs.lemmas.Bool.{cases_lt}
 use Rattle.std.proofs.lemmas.List.{get_or_past}
 use Rattle.app_model.specs.Facts.{Fact, View, At, Ret, Exc}
 use Rattle.solution.specs.Words.{has, AreRows, IsOne}
-use Rattle.solution.specs.Table.{Rows, word, row_len, room, Ors}
-use Rattle.solution.specs.Facts.{Facts, holds, facts_room, Joins, SameSize, Adds}
+use Rattle.solution.specs.Table.{Rows, word, row_len, Ors}
+use Rattle.solution.specs.Facts.{Facts, holds, facts_room, Joins, Adds}
 use Rattle.solution.proofs.Bits.{has_true, has_from, none_has}
 
 -- statuses of a word
@@ -130,6 +129,12 @@ pub at_place : (t : Facts) (m e i s : ℕ) → holds t (At m e i s) ≡ true →
 unfolding holds row_len word
 at_place t m e i s h =
     ⊎_elim (λ l. l) (λ past. absurd (let z = get_or_past (get_or t.code m []) i 0 past in none_has e s (rw z at h))) (cases_lt i (length (get_or t.code m [])))
+
+-- a view is of a component that has a place
+pub view_place : (t : Facts) (c q s : ℕ) → holds t (View c q s) ≡ true → c < row_len t.ends 2
+unfolding holds row_len word
+view_place t c q s h =
+    ⊎_elim (λ l. l) (λ past. absurd (let z = get_or_past (get_or t.ends 2 []) c 0 past in none_has q s (rw z at h))) (cases_lt c (length (get_or t.ends 2 [])))
 
 -- words that were read
 pub at_is : (t : Facts) (m i e s w : ℕ) → w ≡ word t.code m i → has w e s ≡ holds t (At m e i s)

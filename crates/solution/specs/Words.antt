@@ -1,5 +1,5 @@
 -- Masks of eight statuses, and words of eight rows of eight statuses.
-use Rattle.std.specs.Prelude.{◌≡◌, ℕ, ◌+◌, ◌*◌, ◌<◌, Bool, true, false, ◌&&◌, nat_lt, ◌==◌}
+use Rattle.std.specs.Prelude.{◌≡◌, ℕ, ◌+◌, ◌*◌, ◌<◌, Bool, true, ◌&&◌, nat_lt, ◌==◌}
 use Rattle.std.specs.Int.{bit_at}
 use Rattle.app_model.specs.Masks.{in_mask}
 

@@ -56,8 +56,8 @@ fn lead_one(mask: u8, word: u64, status: u8) -> u8
     }
 }
 
-// Where the statuses of a mask lead by the rows of a word.
-fn lead(mask: u8, word: u64) -> u8
+/// Where the statuses of a mask lead by the rows of a word.
+pub fn lead(mask: u8, word: u64) -> u8
     ensures { IsMask (λ t. (s : ℕ) × Leads mask word s t) result }
 {
     let mut out = 0;

@@ -1,4 +1,4 @@
-use Rattle.std.proofs.Common.{◌≡◌, ◌<◌, true, arith}
+use Rattle.std.proofs.Common.{◌≡◌, true, arith}
 use Rattle.solution.specs.Words.{has}
 use Rattle.solution.proofs.Bits.{mask_none, mask_more, mask_end, mask_row, has_true}
 use Rattle.solution.proofs.words.all_of.Goals as goal

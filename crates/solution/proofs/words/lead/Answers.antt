@@ -1,4 +1,4 @@
-use Rattle.std.proofs.Common.{◌<◌, arith}
+use Rattle.std.proofs.Common.{arith}
 use Rattle.solution.specs.Words.{Leads}
 use Rattle.solution.proofs.Bits.{mask_none, mask_more, mask_end, has_true}
 use Rattle.solution.proofs.words.lead.Goals as goal

@@ -1,5 +1,3 @@
-use Rattle.std.proofs.Common.{◌≡◌, ◌≢◌, ◌<◌, ◌^◌, arith}
-use Rattle.std.specs.Prelude.{bit_or}
 use Rattle.solution.proofs.Ors.{put_ors, none_ors}
 use Rattle.solution.proofs.table.Table.or_word.Goals as goal
 

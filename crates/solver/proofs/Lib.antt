@@ -1,0 +1,4 @@
+pub mod Turns
+pub mod Visits
+pub mod Places
+pub mod Closed

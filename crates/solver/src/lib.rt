@@ -1,0 +1,16 @@
+//! The least set of facts of a lock field under the rules inside callbacks.
+//!
+//! - `task` has the subject and the lock, and places in its code.
+//! - `ask` asks the masks of an instruction; `throws`, `calls` and `visit` apply the rules from it.
+//! - `sweep` visits all instructions until nothing changes; `approach` first takes methods in a good order.
+#![tactic(auto)]
+
+mod approach;
+mod ask;
+mod calls;
+mod sweep;
+mod task;
+mod throws;
+mod visit;
+
+pub use sweep::solve_calls;

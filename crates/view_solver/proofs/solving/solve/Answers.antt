@@ -1,0 +1,12 @@
+use Rattle.view_solver.proofs.Rounds.{empty_below}
+use Rattle.solver.proofs.Turns.{facts_kept}
+use Rattle.view_solver.proofs.solving.solve.Goals as goal
+
+pub move_all-requires : goal.move_all-requires
+move_all-requires g c = record { sound = c.told.ensures; lock = c.requires; places = c.in_ok-solution.ensures.places }
+
+pub solve_rounds-requires-clause-facts : goal.solve_rounds-requires-clause-facts
+solve_rounds-requires-clause-facts g c = facts_kept _ _ _ _ (c.move_all.ensures (g.R.Rows.masks c.args.rows.now)).size (record { sound = c.told.ensures; lock = c.requires; places = c.in_ok-solution.ensures.places })
+
+pub solve_rounds-requires-clause-below : goal.solve_rounds-requires-clause-below
+solve_rounds-requires-clause-below g c = (c.move_all.ensures _).below _ (empty_below _ _ _ _ c.in_ok-solution.ensures.empty)
