@@ -51,8 +51,20 @@ module _ (x : SubjectParts) (l : ℕ) (t : Facts) (c k : ℕ) where
   bad_some ends cut facts answers exit e h = record {
     there = λ s v. h.there s (e.there s (v.number, (v.edge, v.before, v.there, v.callback, subst (λ q. holds t (View c q v.before) ≡ true) (sym v.from) v.holds.0, (v.needs, v.carried, v.holds.1)))) v.held;
     only = λ s m. (let z = h.only s m in let w = e.only s z.0 in let y = w.1.5 in record {
-      state = w.1.0.from; before = w.1.1; number = w.0; edge = w.1.0; needs = y.0; slot = facts.lock; there = w.1.2; from = refl;
-      callback = w.1.3; carried = y.1; holds = (w.1.4, y.2); exit = exit; held = z.1; answers = answers;
+      state = w.1.0.from;
+      before = w.1.1;
+      number = w.0;
+      edge = w.1.0;
+      needs = y.0;
+      slot = facts.lock;
+      there = w.1.2;
+      from = refl;
+      callback = w.1.3;
+      carried = y.1;
+      holds = (w.1.4, y.2);
+      exit = exit;
+      held = z.1;
+      answers = answers;
     });
   }
 
@@ -66,8 +78,10 @@ same_violation v w a b d e = rw (a, b, d, e) refl
 
 comes_before : (v w : Violation) → v.lock ≡ w.lock → v.callback < 8 → v.status < 8 → w.callback < 8 → w.status < 8 → number_of v < number_of w → ComesBefore v w
 comes_before v w lock vk vs wk ws lt =
-    ⊎_elim inl (λ c. let same : v.component ≡ w.component = omega arith in inr (same,
-        ⊎_elim inl (λ k. let equal : v.callback ≡ w.callback = omega arith in inr (equal, inr (lock, omega arith))) (cases_lt v.callback w.callback)))
+    ⊎_elim inl (λ c. let same : v.component ≡ w.component = omega arith in inr (
+      same,
+      ⊎_elim inl (λ k. let equal : v.callback ≡ w.callback = omega arith in inr (equal, inr (lock, omega arith))) (cases_lt v.callback w.callback),
+    ))
     (cases_lt v.component w.component)
 
 module _ (x : SubjectParts) (l : ℕ) (t : Facts) where
@@ -86,10 +100,10 @@ module _ (x : SubjectParts) (l : ℕ) (t : Facts) where
             (λ new. subst (λ (z : Violation). (z.lock ≡ l) × (number_of z < n + 1) × Violates x l t z.component z.callback z.status) new (lock, omega arith, bad)) (Contains-push_cases vs v w h);
         there = λ w other lt more. ⊎_elim (λ less. Contains-append_left vs (v ∷ []) w (listed.there w other less more))
             (λ le. (let low = violates_below x l t w.component w.callback w.status more in
-                let a : v.component ≡ w.component = omega (arith, own.0, own.1, low.0, low.1) in
-                let b : v.callback ≡ w.callback = omega (arith, own.0, own.1, low.0, low.1) in
-                let d : v.status ≡ w.status = omega (arith, own.0, own.1, low.0, low.1) in
-                subst (λ z. Contains (vs ++ v ∷ []) z) (same_violation v w a b (lock ∙ sym other) d) (Contains-push vs v))) (cases_lt (number_of w) n);
+            let a : v.component ≡ w.component = omega (arith, own.0, own.1, low.0, low.1) in
+            let b : v.callback ≡ w.callback = omega (arith, own.0, own.1, low.0, low.1) in
+            let d : v.status ≡ w.status = omega (arith, own.0, own.1, low.0, low.1) in
+            subst (λ z. Contains (vs ++ v ∷ []) z) (same_violation v w a b (lock ∙ sym other) d) (Contains-push vs v))) (cases_lt (number_of w) n);
         ordered = all_pairs_push ComesBefore vs v listed.ordered (λ i d lt.
             (let w = get_or vs i d in let o = listed.only w (All-contains_itself vs i d lt) in
             let low = violates_below x l t w.component w.callback w.status o.2 in
@@ -101,10 +115,10 @@ module _ (x : SubjectParts) (l : ℕ) (t : Facts) where
     only = λ w h. (let o = listed.only w h in (o.0, (let lt = o.1 in omega arith), o.2));
     there = λ w other lt more. ⊎_elim (λ less. listed.there w other less more)
         (λ le. absurd (let low = violates_below x l t w.component w.callback w.status more in
-            let a : w.component ≡ v.component = omega (arith, k8, s8, low.0, low.1) in
-            let b : w.callback ≡ v.callback = omega (arith, k8, s8, low.0, low.1) in
-            let d : w.status ≡ v.status = omega (arith, k8, s8, low.0, low.1) in
-            not_bad (subst (λ (z : Violation). Violates x l t z.component z.callback z.status) (same_violation w v a b (other ∙ sym lock) d) more))) (cases_lt (number_of w) n);
+        let a : w.component ≡ v.component = omega (arith, k8, s8, low.0, low.1) in
+        let b : w.callback ≡ v.callback = omega (arith, k8, s8, low.0, low.1) in
+        let d : w.status ≡ v.status = omega (arith, k8, s8, low.0, low.1) in
+        not_bad (subst (λ (z : Violation). Violates x l t z.component z.callback z.status) (same_violation w v a b (other ∙ sym lock) d) more))) (cases_lt (number_of w) n);
     ordered = listed.ordered;
   }
 
@@ -126,15 +140,29 @@ module _ (x : SubjectParts) (l : ℕ) (t : Facts) where
 pub all_listed : (x : SubjectParts) (l : ℕ) (t : Facts) (vs : List Violation) → HasPlaces x t → AreListed x l t (64 * length x.list) vs → AreViolationsBy x l (HasAll (holds t)) vs
 all_listed x l t vs places listed = record {
   ordered = listed.ordered;
-  exact = λ v. ((λ h. let o = listed.only v h in (o.0, o.2)),
-      (λ z. let c : v.component < length x.list = rw places.views at (view_place t v.component z.1.state z.1.before z.1.holds.0) in let low = violates_below x l t v.component v.callback v.status z.1 in
-          listed.there v z.0 (let k8 = low.0 in let s8 = low.1 in omega arith) z.1));
+  exact = λ v. (
+    (λ h. let o = listed.only v h in (o.0, o.2)),
+    (λ z. let c : v.component < length x.list = rw places.views at (view_place t v.component z.1.state z.1.before z.1.holds.0) in let low = violates_below x l t v.component v.callback v.status z.1 in
+        listed.there v z.0 (let k8 = low.0 in let s8 = low.1 in omega arith) z.1),
+  );
 }
 
 violation_by : (x : SubjectParts) (l : ℕ) (P Q : List Fact → Type 0) → ((fs : List Fact) → P fs → Q fs) → (c k s : ℕ) → IsViolation x (Carries x l) l P c k s → IsViolation x (Carries x l) l Q c k s
 violation_by x l P Q to c k s v = record {
-  state = v.state; before = v.before; number = v.number; edge = v.edge; needs = v.needs; slot = v.slot; there = v.there; from = v.from;
-  callback = v.callback; carried = v.carried; holds = to _ v.holds; exit = v.exit; held = v.held; answers = v.answers;
+  state = v.state;
+  before = v.before;
+  number = v.number;
+  edge = v.edge;
+  needs = v.needs;
+  slot = v.slot;
+  there = v.there;
+  from = v.from;
+  callback = v.callback;
+  carried = v.carried;
+  holds = to _ v.holds;
+  exit = v.exit;
+  held = v.held;
+  answers = v.answers;
 }
 
 -- by the least solution they are derived
@@ -142,6 +170,7 @@ pub all_derivable : (x : SubjectParts) (l : ℕ) (set : Set) (vs : List Violatio
 all_derivable x l set vs least by = record {
   ordered = by.ordered;
   exact = λ v. (
-      (λ h. let z = (by.exact v).0 h in (z.0, violation_by x l (HasAll set) (Derived (Rules x l) none_given) (λ fs has. all_derived (Rules x l) none_given set least.sound fs has) _ _ _ z.1)),
-      (λ z. (by.exact v).1 (z.0, violation_by x l (Derived (Rules x l) none_given) (HasAll set) (λ fs d. in_closed (Rules x l) none_given set (λ f given. absurd (cc)) (least_closed (Rules x l) none_given set least) d) _ _ _ z.1)));
+    (λ h. let z = (by.exact v).0 h in (z.0, violation_by x l (HasAll set) (Derived (Rules x l) none_given) (λ fs has. all_derived (Rules x l) none_given set least.sound fs has) _ _ _ z.1)),
+    (λ z. (by.exact v).1 (z.0, violation_by x l (Derived (Rules x l) none_given) (HasAll set) (λ fs d. in_closed (Rules x l) none_given set (λ f given. absurd (cc)) (least_closed (Rules x l) none_given set least) d) _ _ _ z.1)),
+  );
 }

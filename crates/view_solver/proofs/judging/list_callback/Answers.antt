@@ -6,7 +6,7 @@ pub loop-status-init : goal.loop-status-init
 loop-status-init c = listed_at _ _ _ _ _ _ (omega arith) c.requires.listed
 
 pub loop-status-preserved : goal.loop-status-preserved
-loop-status-preserved c = 
+loop-status-preserved c =
     listed_at _ _ _ _ _ _ (omega arith)
     (next_listed _ _ _ _ _ _ _ (record { component = c.args.component.0; callback = c.args.callback; lock = c.args.lock.0; status = c.loop-status.status })
     c.bad_ends-mask.ensures refl refl c.requires.callback c.loop-status-test.true c.in_ok-push_if.ensures c.loop-status.invariant)
