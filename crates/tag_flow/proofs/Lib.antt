@@ -1,0 +1,9 @@
+pub mod Rows
+pub mod Monotone
+pub mod Cells
+pub mod Turns
+pub mod Acts
+pub mod Fits
+pub mod Reached
+pub mod Below
+pub mod Closed

@@ -1,0 +1,5 @@
+use Rattle.tag_flow.proofs.Monotone.{monotone}
+use Rattle.tag_flow.proofs.laws.flow_law.Goals as goal
+
+pub returns : goal.returns
+returns c = monotone
