@@ -1,11 +1,12 @@
 -- Which lock fields and sites acts of an application name.
-use Rattle.std.proofs.Common.{◌≡◌, ℕ, ◌<◌, ◌≤◌, ◌==◌, Bool, true, false, if◌then◌else◌, List, [], ◌∷◌, length, Option, Some, None, refl, sym, ap, ◌∙◌, bytes_eq, get_or, ⊎_elim, arith}
+use Rattle.std.proofs.Common.{◌≡◌, ℕ, ◌<◌, ◌≤◌, ◌==◌, Bool, true, false, if◌then◌else◌, List, [], ◌∷◌, length, Option, Some, None, refl, sym, ap, ◌∙◌, bytes_eq, subst, get_or, ⊎_elim, arith}
 use Rattle.std.specs.Prelude.{slice_get}
 use Rattle.std.proofs.lemmas.Bool.{cases_lt}
 use Rattle.std.proofs.lemmas.List.{get_or_past}
 use Rattle.std.proofs.lemmas.List.Quantifiers.{position-Some}
 use Rattle.std.proofs.lemmas.Option.{slice_get_cases, slice_get_within}
 use Rattle.ns_base.specs.declared.rows.LockNo.{LockNo}
+use Rattle.dalvik.specs.Body.{BodyRows}
 use Rattle.dalvik.specs.declared.body.Place.{Place}
 use Rattle.dalvik.specs.declared.ins.Ins.{Ins}
 use Rattle.dalvik.specs.declared.ins.Ins.TheVariants as ins
@@ -138,4 +139,4 @@ act_there app m i lt = ⊎_elim (λ h. (act_of app m i h.0.ins, rw h.2 refl)) (�
 -- and so is its method
 pub method_within : (app : AppParts) (m i : ℕ) → IsApp app → i < code_len app m → m < length app.methods
 unfolding places_of
-method_within app m i sizes lt = ⊎_elim (λ (l : m < length app.code). (let e = sizes.code in omega arith)) (λ past. absurd (let e = get_or_past app.code m no_body past in let h : i < 0 = rw e at lt in omega arith)) (cases_lt m (length app.code))
+method_within app m i sizes lt = ⊎_elim (λ (l : m < length app.code). (let e = sizes.code in omega arith)) (λ past. absurd (let e = get_or_past app.code m no_body past in let h : i < 0 = subst (λ (body : BodyRows). i < length body.places) e lt in omega arith)) (cases_lt m (length app.code))

@@ -39,10 +39,13 @@ use Rattle.tag_flow.proofs.Reached.{entry_callback}
 -- ---- a mask of all callees says of each tag what some callee does
 union_tag : (k : KnownParts) (m i gone : ℕ) → IsUnion k m i gone → (t : Tag) → (n : MethodNo) × Contains (callees_at k.graph m i) n × (called_change (in_lock_mask gone) t ≡ called_change (is_gone k n.0) t)
 union_tag k m i gone union (Field l) = ⊎_elim
-    (λ on. (let by = union.only l.0 on in (by.0, by.1, rw (on, by.2) refl)))
-    (λ off. (let by = union.some_callee in (by.0, by.1, rw (off, not_gone by.0 by.1 off) refl)))
+    (λ on. (let by = union.only l.0 on in (by.0, by.1, same (on ∙ sym by.2))))
+    (λ off. (let by = union.some_callee in (by.0, by.1, same (off ∙ sym (not_gone by.0 by.1 off)))))
     (cases_Bool (in_lock_mask gone l.0))
   where
+    same : {a b : Bool} → a ≡ b → (if a then Mixed else Field l) ≡ (if b then Mixed else Field l)
+    same e = ap (λ (b : Bool). if b then Mixed else Field l) e
+
     not_gone : (n : MethodNo) → Contains (callees_at k.graph m i) n → in_lock_mask gone l.0 ≡ false → is_gone k n.0 l.0 ≡ false
     not_gone n there off = ⊎_elim (λ on. absurd (true≢false (sym (union.all n l.0 there on) ∙ off))) (λ same. same) (cases_Bool (is_gone k n.0 l.0))
 union_tag k m i gone union Bot = (union.some_callee.0, union.some_callee.1, refl)
@@ -113,7 +116,7 @@ module _ (k : KnownParts) where
   cell_below : (s : StateParts) (new : TagParts) (m place : ℕ) (tag : Tag) (x : Bool) → Joins s.table m place tag new x
       → ((u : TagParts) → u.registers ≡ s.table.registers → IsClosed k u → Grows s.table u → Under tag (tag_there u m place)) → IsBelow k s → IsBelow k (record { table = new; answers = s.answers })
   cell_below s new m place tag x joins why b = record {
-    cells = λ u same closed. (let as = same ∙ joins.grows.registers in let under = b.cells u as closed in joins_least _ _ _ _ _ _ u joins under (why u as closed under));
+    cells = λ u same closed. (let regs = same ∙ joins.grows.registers in let under = b.cells u regs closed in joins_least _ _ _ _ _ _ u joins under (why u regs closed under));
     answers = λ n top are. b.answers n top (answers_less s.table new n top joins.grows are);
   }
 
@@ -209,7 +212,7 @@ module _ (k : KnownParts) where
   give_turn s new m i a answer tag x is returns live tag_is fits joins kept = record {
     below = λ b. (let more : IsBelow k (record { table = s.table; answers = new.answers }) = record {
       cells = b.cells;
-      answers = λ n top are. joins.least 0 n top (b.answers n top are) (λ _ en. rw tag_is (are i answer (rw en (is ∙ ap (λ (b : Act). Some b) returns)) (rw en live)));
+      answers = λ n top are. joins.least 0 n top (b.answers n top are) (λ _ en. rw tag_is (subst (λ q. AreAnswersUnder k s.table q top) en are i answer (is ∙ ap (λ (b : Act). Some b) returns) live));
     } in subst (λ (t : TagParts). IsBelow k (record { table = t; answers = new.answers })) (sym kept) more);
     grows = rw kept (grows_same s.table);
     state = λ h. record {

@@ -1,7 +1,7 @@
 -- A sweep that changes nothing leaves a closed table.
-use Rattle.std.proofs.Common.{◌≡◌, ◌≢◌, ℕ, suc, zero, List, [], ◌∷◌, ◌++◌, ◌+◌, ◌-◌, ◌*◌, ◌<◌, ◌≤◌, pred, Bool, true, false, cond, Option, Some, None, length, map, set, replicate, refl, sym, ap, ◌∙◌, subst, ⊎_elim, arith, Contains, get_or, length-set}
+use Rattle.std.proofs.Common.{◌≡◌, ◌≢◌, ℕ, suc, zero, List, [], ◌∷◌, ◌++◌, ◌+◌, ◌-◌, ◌*◌, ◌<◌, ◌≤◌, pred, Bool, true, false, cond, if◌then◌else◌, Option, Some, None, length, map, set, replicate, refl, sym, ap, ◌∙◌, subst, ⊎_elim, arith, Contains, get_or, length-set}
 use Rattle.std.specs.Prelude.{slice_get}
-use Rattle.std.proofs.lemmas.Bool.{cases_Bool, cases_eq, cases_lt}
+use Rattle.std.proofs.lemmas.Bool.{cases_Bool, cases_eq, cases_lt, false≢true}
 use Rattle.std.proofs.lemmas.List.{get_or-map, get_or-set_other, get_or-set_same, get_or_past, length-append, length-map, length-replicate}
 use Rattle.std.proofs.lemmas.Option.{get_or_from_slice_get, slice_get_within}
 use Rattle.ns_base.specs.declared.rows.LockNo.{LockNo}
@@ -31,7 +31,7 @@ use Rattle.tag_flow.specs.Turns.{IsBelow, IsUnion, Turn, changed}
 use Rattle.tag_flow.specs.declared.change.Change.TheVariants.{After, Thrown, Past, Out}
 use Rattle.tag_flow.specs.Goals.{AllVisited, IsVisited, RowPassed}
 use Rattle.tag_flow.proofs.Acts.{act_there, act_within, method_within}
-use Rattle.tag_flow.proofs.Monotone.{called_under, map_tag, past_under}
+use Rattle.tag_flow.proofs.Monotone.{map_tag}
 use Rattle.tag_flow.proofs.Reached.{callback_entry}
 use Rattle.tag_flow.proofs.Rows.{grown_table, under_trans}
 
@@ -94,6 +94,12 @@ entry_len registers ins words le =
     let both = length-append (replicate (registers - ins) Zero) (fitted Zero ins words) in
     length-append (replicate (registers - ins) Zero ++ fitted Zero ins words) (Zero ∷ []) ∙ omega (arith, first, second, both, le)
 
+set_bot : (xs : List Tag) (c : ℕ) → tag_in (set xs c Bot) c ≡ Bot
+set_bot xs c = ⊎_elim (λ lt. get_or-set_same xs c Bot Bot lt) (λ past. get_or_past (set xs c Bot) c Bot (rw length-set past)) (cases_lt c (length xs))
+
+set_under_top : (xs : List Tag) (c : ℕ) (tag top : Tag) → Under tag top → Under (tag_in (set xs c tag) c) top
+set_under_top xs c tag top h = ⊎_elim (λ lt. rw (get_or-set_same xs c tag Bot lt) h) (λ past. rw (get_or_past (set xs c tag) c Bot (rw length-set past)) bot_all) (cases_lt c (length xs))
+
 module _ (k : KnownParts) (known : IsKnown k) (s : StateParts) (state : IsState k s) (done : AllVisited k s) where
   abbrev row : ℕ → ℕ → List Tag
   row m i = row_at s.table m i
@@ -144,11 +150,13 @@ module _ (k : KnownParts) (known : IsKnown k) (s : StateParts) (state : IsState 
 
   -- the mask of all callees tells more than that of one
   more_gone : (f g : ℕ → Bool) → ((l : ℕ) → f l ≡ true → g l ≡ true) → (t : Tag) → Under (called_change f t) (called_change g t)
-  more_gone f g more (Field l) = ⊎_elim (λ on. rw (on, more l.0 on) itself) (λ off. rw off (either (g l.0))) (cases_Bool (f l.0))
+  more_gone f g more (Field l) = both (f l.0) (g l.0) (more l.0)
     where
-      either : (b : Bool) → Under (Field l) (cond b Mixed (Field l))
-      either true = all_mixed
-      either false = itself
+      both : (a b : Bool) → (a ≡ true → b ≡ true) → Under (if a then Mixed else Field l) (if b then Mixed else Field l)
+      both true true h = itself
+      both true false h = absurd (false≢true (h refl))
+      both false true h = all_mixed
+      both false false h = itself
   more_gone f g more Bot = itself
   more_gone f g more Zero = itself
   more_gone f g more Solid = itself
@@ -166,10 +174,7 @@ module _ (k : KnownParts) (known : IsKnown k) (s : StateParts) (state : IsState 
       let two = called_len g xs in
       let c = pred (length xs) in
       rw (one, two) (⊎_elim
-      (λ is. ⊎_elim
-          (λ lt. rw (is, get_or-set_same (called f xs) c Bot Bot (omega (arith, lt, one))) bot_all)
-          (λ past. rw (get_or_past (set (called f xs) c Bot) r Bot (rw length-set (omega (arith, past, one, is)))) bot_all)
-          (cases_lt c (length xs)))
+      (λ is. subst (λ n. Under (tag_in (set (called f xs) c Bot) n) (tag_in (set (called g xs) c Bot) n)) (sym is) (subst (λ t. Under t (tag_in (set (called g xs) c Bot) c)) (sym (set_bot (called f xs) c)) bot_all))
       (λ ne. rw (get_or-set_other (called f xs) c r Bot Bot ne, get_or-set_other (called g xs) c r Bot Bot ne) (called_more f g more xs r))
       (cases_eq r c))
 
@@ -177,12 +182,8 @@ module _ (k : KnownParts) (known : IsKnown k) (s : StateParts) (state : IsState 
   only_result_under xs tag r top here =
       let c = pred (length xs) in
       let bots = map (λ (t : Tag). Bot) xs in
-      let len = length-map xs (λ (t : Tag). Bot) in
       ⊎_elim
-      (λ is. ⊎_elim
-          (λ lt. rw (is, get_or-set_same bots c tag Bot (omega (arith, lt, len))) (here is))
-          (λ past. rw (get_or_past (set bots c tag) r Bot (rw length-set (omega (arith, past, len, is)))) bot_all)
-          (cases_lt c (length xs)))
+      (λ is. rw is (set_under_top bots c tag top (here is)))
       (λ ne. rw (get_or-set_other bots c r tag Bot ne, map_tag (λ (t : Tag). Bot) xs r refl) bot_all)
       (cases_eq r c)
 
@@ -196,8 +197,8 @@ module _ (k : KnownParts) (known : IsKnown k) (s : StateParts) (state : IsState 
       by (back_from_outside {m = m} i x a is call outside to live) within r lt =
           (visited m i a is live live a is).0.0 (call_leads a call) (λ _. outside) x _ to r (omega (arith, lt, after_len (site_at k.app m i) a (row m i), row_len m i))
       by (throws {m = m} i x a is can to live) within r lt = (visited m i a is live live a is).0.1 can x _ to r (omega (arith, lt, thrown_len a (row m i), row_len m i))
-      by (enters m i n by usage arguments gives is callee live) within r lt =
-          ((visited m i _ is live live _ is).1.0 n callee).1.0 by usage arguments gives refl within r (callee_within_row n.0 (call_words by (row m i) arguments) r lt)
+      by (enters m i n how usage arguments gives is callee live) within r lt =
+          ((visited m i _ is live live _ is).1.0 n callee).1.0 how usage arguments gives refl within r (callee_within_row n.0 (call_words how (row m i) arguments) r lt)
       by (passes_call {m = m} {j = j} i x n callee to live) within r lt =
           let at = call_there m i n callee in
           let one = ((visited m i at.0 at.1 live live at.0 at.1).1.0 n callee).0 in

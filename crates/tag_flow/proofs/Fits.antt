@@ -1,7 +1,8 @@
 -- Every tag that flows is one of the application.
-use Rattle.std.proofs.Common.{◌≡◌, ℕ, suc, zero, ◌<◌, ◌++◌, List, [], ◌∷◌, length, map, set, replicate, drop, Bool, true, false, if◌then◌else◌, eqb, Option, Some, None, refl, sym, ap, subst, get_or, ⊎_elim, arith}
+use Rattle.std.proofs.Common.{◌≡◌, ◌-◌, ℕ, suc, zero, ◌<◌, ◌++◌, List, [], ◌∷◌, length, map, set, replicate, drop, Bool, true, false, if◌then◌else◌, eqb, Option, Some, None, refl, sym, ap, ◌∙◌, subst, get_or, ⊎_elim, arith}
 use Rattle.std.specs.Prelude.{slice_get}
 use Rattle.std.proofs.lemmas.Bool.{cases_lt}
+use Rattle.std.proofs.lemmas.Option.{slice_get-get_or}
 use Rattle.ns_base.specs.declared.rows.LockNo.{LockNo}
 use Rattle.dalvik.specs.declared.ins.Args.{Args}
 use Rattle.dalvik.specs.Registers.{args_of}
@@ -26,10 +27,16 @@ use Rattle.act_model.specs.declared.act.Written.{Written}
 use Rattle.act_model.specs.declared.act.Written.TheVariants as written
 use Rattle.act_model.specs.Changes.{after, after_stored, call_change, called, called_change, field_after, given_tag, held_change, held_tag, new_after, put, result_cell, result_tag, stored_change, tag_in, thrown, without_held, written_tag}
 use Rattle.act_model.specs.Entries.{call_words, callback_row, callback_words, entering, entering_words, entry_row, fitted}
-use Rattle.flow_model.specs.TagFlow.{Flow, begins, goes_on, back_from_outside, throws, enters, passes_call, comes_back, throws_out, answered, callee_row, only_result, without_result}
+use Rattle.flow_model.specs.TagFlow.{answered, callee_row, without_result}
 use Rattle.tag_flow.specs.Cells.{AreTagsOf, IsTagOf, tag_there}
-use Rattle.tag_flow.specs.Known.{Flows, KnownParts}
-use Rattle.tag_flow.proofs.Acts.{makes_lock, named_slot}
+use Rattle.app_model.specs.Masks.{in_lock_mask}
+use Rattle.app_model.specs.Parts.{AppParts}
+use Rattle.act_model.specs.Acts.{act_at}
+use Rattle.tag_flow.specs.declared.change.Change.{Change}
+use Rattle.tag_flow.specs.declared.sites.Site.{Site}
+use Rattle.tag_flow.specs.Known.{IsKnown, KnownParts}
+use Rattle.tag_flow.specs.Turns.{Leads, leads_after, leads_thrown, leads_past, leads_out, changed}
+use Rattle.tag_flow.proofs.Acts.{act_made, act_slot, act_within, makes_lock, method_within, named_slot}
 
 module _ (locks : ℕ) where
   abbrev Fits : Tag → Type 0
@@ -198,22 +205,44 @@ module _ (locks : ℕ) where
   fitted_fits (suc n) (x ∷ xs) all = more_fits x _ (all 0) (fitted_fits n xs (λ q. all (suc q)))
 
   entry_fits : (registers ins : ℕ) (words : List Tag) → AllFit words → AllFit (entry_row Zero registers ins words)
-  entry_fits registers ins words all = append_fits _ _ (append_fits _ _ (same_fits _ Zero tt) (fitted_fits ins words all)) (more_fits Zero [] tt nil_fits)
+  entry_fits registers ins words all = append_fits (replicate (registers - ins) Zero ++ fitted Zero ins words) (Zero ∷ []) (append_fits (replicate (registers - ins) Zero) (fitted Zero ins words) (same_fits (registers - ins) Zero tt) (fitted_fits ins words all)) (more_fits Zero [] tt nil_fits)
 
   words_fit : (row : List Tag) (registers : List ℕ) → AllFit row → AllFit (entering_words row registers)
   words_fit row registers all = made_fits _ (λ r. entering_fits _ (all r)) registers
 
-  call_words_fit : (by : By) (row : List Tag) (arguments : Args) → AllFit row → AllFit (call_words by row arguments)
+  pub call_words_fit : (by : By) (row : List Tag) (arguments : Args) → AllFit row → AllFit (call_words by row arguments)
   call_words_fit Static row arguments all = words_fit row (args_of arguments) all
   call_words_fit Virtual row arguments all = more_fits Solid _ tt (words_fit row (drop 1 (args_of arguments)) all)
   call_words_fit Super row arguments all = more_fits Solid _ tt (words_fit row (drop 1 (args_of arguments)) all)
   call_words_fit Direct row arguments all = more_fits Solid _ tt (words_fit row (drop 1 (args_of arguments)) all)
 
-  callee_fits : (method : Option MethodRow) (words : List Tag) → AllFit words → AllFit (callee_row method words)
+  pub callee_fits : (method : Option MethodRow) (words : List Tag) → AllFit words → AllFit (callee_row method words)
   callee_fits None words all = nil_fits
   callee_fits (Some method) words all = entry_fits method.registers method.ins words all
 
-  answered_fits : (answer : Returned) (row : List Tag) → AllFit row → Fits (answered answer row)
+  pub answered_fits : (answer : Returned) (row : List Tag) → AllFit row → Fits (answered answer row)
   answered_fits returned.Nothing row all = tt
   answered_fits returned.Wide row all = tt
   answered_fits (returned.Register r) row all = entering_fits _ (all r)
+
+  pub begun_fits : (app : AppParts) (method : Option MethodRow) → AllFit (callback_row app method)
+  begun_fits app None = nil_fits
+  begun_fits app (Some method) = entry_fits method.registers method.ins _ (more_fits Solid _ tt (same_fits _ Any tt))
+
+-- ---- a flow from an instruction
+module _ (k : KnownParts) (known : IsKnown k) where
+  site_below : (m i : ℕ) (a : Act) → act_at k.app m i ≡ Some a → makes_lock a ≡ true → site_at k.app m i < 64
+  site_below m i a is makes =
+      let within = act_within k.app m i a is in
+      let there = known.sites.all m i (method_within k.app m i known.app.sizes within) within (act_made k.app m i a is makes) in
+      let site : Site = record { method = record { 0 = m }; index = i } in
+      let same = known.sites.only there.0 site (slice_get-get_or k.sites there.0 site there.1 ∙ ap Some there.2) in
+      (let few = known.few_sites in omega (arith, same, there.1, few))
+
+  pub change_fits : (m i j : ℕ) (change : Change) → Leads k m i j change → (row : List Tag) → AllFit (length k.app.locks) row → AllFit (length k.app.locks) (changed change row)
+  change_fits m i j _ (leads_after x a site is leads outside same to) row all =
+      subst (AllFit (length k.app.locks)) (sym (same row)) (after_fits (length k.app.locks) (site_at k.app m i) a row (λ l named. act_slot k.app m i l a is named) (site_below m i a is) all)
+  change_fits m i j _ (leads_thrown x a is can to) row all = thrown_fits (length k.app.locks) a row all
+  change_fits m i j _ (leads_past x gone union to) row all =
+      set_fits (length k.app.locks) _ _ Bot (map_fits (length k.app.locks) _ (called_fits (length k.app.locks) (in_lock_mask gone)) row all) tt
+  change_fits m i j _ (leads_out x gone union to) row all = map_fits (length k.app.locks) _ (called_fits (length k.app.locks) (in_lock_mask gone)) row all

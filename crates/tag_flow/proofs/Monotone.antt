@@ -228,7 +228,7 @@ store_under from l (itself {t = a}) rows ea eb = store_same from l a rows
 store_under from l (bot_all {t = b}) rows ea eb = store_bot from l b rows ea
 store_under from l zero_any rows ea eb = stored_rows l.0 zero_any rows
 store_under from l solid_any rows ea eb = stored_rows l.0 solid_any rows
-store_under from l held_any rows ea eb = stored_rows l.0 held_any rows
+store_under from l (held_any {l = held}) rows ea eb = stored_rows l.0 (held_any {l = held}) rows
 store_under from l (all_mixed {t = a}) rows ea eb = store_mixed from l a rows eb
 
 -- ---- acts
@@ -306,7 +306,7 @@ monotone app graph list gone low high same under m _ _ (throws i k a is can to l
     (_, throws i k a is can to (live_under v live), thrown_under a v)
 monotone app graph list gone low high same under _ _ _ (enters m i n by usage arguments gives is callee live) =
     let v = table_rows low high m i same under in
-    (_, enters m i n by usage arguments gives is callee (live_under v live), callee_under _ (call_words_under by arguments v))
+    (_, enters m i n by usage arguments gives is callee (live_under v live), callee_under (slice_get app.methods n.0) (call_words_under by arguments v))
 monotone app graph list gone low high same under m _ _ (passes_call i k n callee to live) =
     let v = table_rows low high m i same under in
     (_, passes_call i k n callee to (live_under v live), without_under (past_under (gone n.0) v))
