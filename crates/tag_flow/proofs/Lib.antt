@@ -7,3 +7,10 @@ pub mod Fits
 pub mod Reached
 pub mod Below
 pub mod Closed
+pub mod Begin
+pub mod Numbered
+pub mod Loops
+pub mod Words
+pub mod Masks
+pub mod Spots
+pub mod Settled

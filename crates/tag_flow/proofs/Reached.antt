@@ -1,6 +1,6 @@
 -- Entries of callbacks, what calls reach from them, and to which lock fields that stores.
 use Rattle.std.proofs.Common.{◌≡◌, ℕ, suc, zero, ◌<◌, ◌≤◌, ◌++◌, List, [], ◌∷◌, length, Bool, true, false, Option, Some, None, refl, sym, ap, ◌∙◌, subst, inl, inr, ⊎_elim, arith, Contains, get_or, lt-ltb, eq-eqb, eqb-true}
-use Rattle.std.specs.Prelude.{◌⊎◌, ◌↔◌, slice_get, flat_map, filter_map, ◌==◌}
+use Rattle.std.specs.Prelude.{◌⊎◌, ◌↔◌, slice_get, flat_map, ◌==◌}
 use Rattle.std.specs.Int.{bit_at}
 use Rattle.std.specs.List.{All}
 use Rattle.std.proofs.lemmas.Bool.{and_from, and_parts, cases_lt, false≢true, ltb-true}
@@ -24,15 +24,13 @@ use Rattle.call_reach.specs.Starts.{AreAssigned, AreReached}
 use Rattle.call_reach.proofs.Adding.{callee_within, user_within}
 use Rattle.call_reach.proofs.Reached.{set_by_callee}
 use Rattle.flow_model.specs.TagFlow.{TellsReached, TellsStores}
+use Rattle.tag_flow.specs.Known.{IsKnown, KnownParts, chosen, is_reached}
 use Rattle.tag_flow.proofs.Acts.{method_within, nearest_below, slot_below}
 
 abbrev method_no : ℕ → MethodNo
 method_no m = record { 0 = m }
 
-abbrev chosen : List (Option MethodNo) → List MethodNo
-chosen methods = filter_map (λ (m : Option MethodNo). m) methods
-
-abbrev own_entries : ComponentParts → List MethodNo
+abbrev pub own_entries : ComponentParts → List MethodNo
 own_entries c = chosen c.methods
 
 -- ---- the methods of callbacks are the entries
@@ -152,3 +150,13 @@ tells_stores app graph masks sound fits are n l = (to, back)
     back a =
         let low : l < 64 = (let few = sound.sizes.locks in let lt = slot_below app a.by a.index l a.stores.slot in omega (arith, few, lt)) in
         and_from _ _ (lt-ltb l 64 low) (eq-eqb (bit_at (get_or masks n 0) l) 1 ((are.exact n l (assigner_below app graph sound fits n l a) low).1 a))
+
+pub known_below : (k : KnownParts) → IsKnown k → (m : ℕ) → is_reached k m ≡ true → m < length k.app.methods
+known_below k known m on = reached_below k.app k.graph known.graph.fits (entries_of k.list) (entries_below k.app k.list known.list) m ((known.reaches m).0 on)
+
+-- a callee of a method that is reached is reached
+pub callee_reached : (k : KnownParts) → IsKnown k → (m i : ℕ) (n : MethodNo) → is_reached k m ≡ true → Contains (callees_at k.graph m i) n → is_reached k n.0 ≡ true
+callee_reached k known m i n on among = (known.reaches n.0).1 (called i n ((known.reaches m).0 on) among)
+
+pub entry_reached : (k : KnownParts) → IsKnown k → (n : MethodNo) → Contains (entries_of k.list) n → is_reached k n.0 ≡ true
+entry_reached k known n among = (known.reaches n.0).1 (given n among)

@@ -3,10 +3,12 @@ use Rattle.std.proofs.Common.{◌≡◌, ℕ, ◌+◌, ◌≤◌, ◌<◌, Bool,
 use Rattle.std.specs.Prelude.{◌||◌}
 use Rattle.std.proofs.lemmas.Bool.{or_parts, or_cases, cases_Bool, cases_lt, false≢true, true≢false}
 use Rattle.tag_flow.specs.Known.{KnownParts}
-use Rattle.tag_flow.specs.State.{StateParts, state_room}
-use Rattle.tag_flow.specs.Turns.{Holds, Turn}
+use Rattle.tag_flow.specs.declared.known.Spot.{Spot}
+use Rattle.tag_flow.specs.declared.passing.Step.{Step}
+use Rattle.tag_flow.specs.State.{IsSource, StateParts, state_room}
+use Rattle.tag_flow.specs.Turns.{Holds, IsStep, Turn}
 use Rattle.tag_flow.specs.Goals.{Below}
-use Rattle.tag_flow.proofs.Rows.{grows_same, grows_trans}
+use Rattle.tag_flow.proofs.Rows.{grows_same, grows_trans, live_grown}
 
 module _ (k : KnownParts) where
   pub turn_none : (goal : StateParts → Type 0) (s : StateParts) → goal s → Turn k goal s s false
@@ -54,3 +56,10 @@ module _ (k : KnownParts) where
 
   pub holds_more : (a b c : StateParts) → Holds k a b → Holds k b c → Holds k a c
   holds_more a b c f g = record { below = λ h. g.below (f.below h); grows = grows_trans _ _ _ f.grows g.grows; state = λ h. g.state (f.state h); room = (let l = f.room in let m = g.room in omega arith) }
+
+  -- what a part that follows needs
+  pub source_kept : (goal : StateParts → Type 0) (a b : StateParts) (x : Bool) (from : Spot) → Turn k goal a b x → IsSource k a from → IsSource k b from
+  source_kept goal a b x from t is = record { state = t.state is.state; spot = is.spot; live = live_grown a.table b.table from.method.0 from.index t.grows is.live }
+
+  pub step_kept : (goal : StateParts → Type 0) (a b : StateParts) (x : Bool) (step : Step) → Turn k goal a b x → IsStep k a step → IsStep k b step
+  step_kept goal a b x step t is = record { source = source_kept goal a b x step.from t is.source; to = is.to; method = is.method; leads = is.leads; kept = is.kept }

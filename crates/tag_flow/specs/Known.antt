@@ -1,5 +1,5 @@
 -- What is known of an application before its tags are.
-use Rattle.std.specs.Prelude.{ℕ, ◌≡◌, ◌<◌, ◌≤◌, ◌+◌, ◌^◌, Bool, true, false, List, Contains, length, map, Some, slice_get, slice_index, slice_index_or}
+use Rattle.std.specs.Prelude.{ℕ, ◌≡◌, ◌<◌, ◌≤◌, ◌+◌, ◌^◌, Bool, true, false, List, Contains, length, map, filter_map, Option, Some, slice_get, slice_index, slice_index_or}
 use Rattle.ns_base.specs.declared.rows.MethodNo.{MethodNo}
 use Rattle.app_model.specs.CallGraph.{GraphParts}
 use Rattle.app_model.specs.Components.{BelongsTo, ComponentParts, entries_of}
@@ -50,6 +50,10 @@ IsClosed k table = IsClosedTable k.app k.graph k.list (is_gone k) table
 pub record AreSites (app : AppParts) (sites : List Site) : Type 0 where
   pub all : (m i : ℕ) → m < length app.methods → i < code_len app m → is_make (lock_use_at app m i) ≡ true → Contains sites (record { method = record { 0 = m }; index = i })
   pub only : (n : ℕ) (site : Site) → slice_get sites n ≡ Some site → n ≡ site_at app site.method.0 site.index
+
+-- the methods of a component's callbacks
+abbrev pub chosen : List (Option MethodNo) → List MethodNo
+chosen methods = filter_map (λ (m : Option MethodNo). m) methods
 
 pub record IsKnown (k : KnownParts) : Type 0 where
   pub app : IsSoundApp k.app

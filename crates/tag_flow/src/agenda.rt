@@ -22,6 +22,14 @@ struct Entry {
     before: u32,
 }
 
+// The number of a place; one that is too large is that of no place.
+fn number_of(place: usize) -> u32 {
+    match u32::try_from(place) {
+        Ok(number) => number,
+        Err(_) => u32::MAX,
+    }
+}
+
 // Numbers under keys.
 #[derive(Drop)]
 struct Chains {
@@ -42,7 +50,7 @@ impl Chains {
         if key < self.last.len() {
             let before = self.last[key];
             self.entries.push(Entry { number, before })?;
-            self.last[key] = self.entries.len() as u32;
+            self.last[key] = number_of(self.entries.len());
         }
         Ok(())
     }
@@ -102,8 +110,7 @@ impl Agenda {
     fn add_method(&mut self, known: &Known, method: MethodNo) -> Result<(), AllocError>
         requires { method.0 < length known.now.app.methods }
     {
-        let first = self.words.len() as u32;
-        self.firsts.push(first)?;
+        self.firsts.push(number_of(self.words.len()))?;
         if known.is_reached(method) {
             for index in 0..known.app.code_len(method) {
                 self.add_place(known, Place { method, index })?;
@@ -127,7 +134,7 @@ impl Agenda {
     fn add_set(&mut self, known: &Known, set: usize) -> Result<(), AllocError> {
         let callees = known.graph.set_callees(set);
         for i in 0..callees.len() {
-            self.sets.add(callees[i].0 as usize, set as u32)?;
+            self.sets.add(callees[i].0 as usize, number_of(set))?;
         }
         Ok(())
     }
@@ -214,7 +221,7 @@ impl Agenda {
         if place < self.words.len() {
             self.words[place] = word & word.wrapping_sub(1);
         }
-        let index = (place as u32).wrapping_sub(first).wrapping_mul(WORD);
+        let index = number_of(place).wrapping_sub(first).wrapping_mul(WORD);
         Some(Place {
             method,
             index: index.wrapping_add(word.trailing_zeros()),

@@ -100,7 +100,7 @@ fn come_back(known: &Known, state: &mut State, from: Spot, callee: MethodNo) -> 
     known.told();
     let mut changed = false;
     for number in 0..u32::MAX {
-        let Some(to) = known.app.successor(from.method, from.index, number) else {
+        let Some(to) = known.successor(from, number) else {
             return changed;
         };
         changed |= come_back_to(known, state, from, to, callee);

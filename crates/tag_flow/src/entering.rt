@@ -40,20 +40,20 @@ fn word_no(method: &MethodRow, register: usize) -> Option<usize>
 
 // ---- calls
 
-fn arg_at(args: &Args, k: usize) -> Option<u32>
+fn arg_at(args: &Args, k: usize) -> Option<usize>
     ensures { result ≡ slice_get (args_of args.now) k }
 {
     match args {
         Args::List { count, registers } => {
             if k < *count as usize {
-                registers.get(k).copied()
+                listed(registers, k)
             } else {
                 None
             }
         }
         Args::Range { first, count } => {
             if k < *count as usize {
-                Some(*first + k as u32)
+                Some(*first as usize + k)
             } else {
                 None
             }
@@ -61,11 +61,18 @@ fn arg_at(args: &Args, k: usize) -> Option<u32>
     }
 }
 
+fn listed(registers: &[u32], k: usize) -> Option<usize>
+    ensures { result ≡ slice_get registers.now k }
+{
+    let register = registers.get(k)?;
+    Some(*register as usize)
+}
+
 fn argument_tag<R: Row>(row: &R, args: &Args, k: usize) -> Tag
     ensures { result ≡ slice_index_or (entries.entering_words (R.tags row.now) (args_of args.now)) k Tag.Zero }
 {
     match arg_at(args, k) {
-        Some(register) => entering(row.tag(register as usize)),
+        Some(register) => entering(row.tag(register)),
         None => Tag::Zero,
     }
 }

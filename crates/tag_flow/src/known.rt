@@ -1,13 +1,13 @@
 //! What is known of an application before its tags are.
-ghost use Rattle.std.specs.Prelude.{◌≡◌, ◌<◌, ◌≤◌, ◌^◌, IfOk, length, Some, slice_index, true};
+ghost use Rattle.std.specs.Prelude.{◌≡◌, ◌<◌, ◌≤◌, ◌^◌, ◌++◌, IfOk, length, Some, slice_index, true};
 ghost use Rattle.app_model.specs.CallGraph.{callees_at};
 ghost use Rattle.app_model.specs.Components.{BelongsTo, entries_of};
 ghost use Rattle.app_model.specs.Sites.{sites_below};
 ghost use Rattle.app_model.specs.TagTable.{cells_of};
 ghost use Rattle.app_model.specs.Targets.{IsCallGraph};
-ghost use Rattle.app_model.specs.Words.{code_len};
+ghost use Rattle.app_model.specs.Words.{code_len, handler_at, successor_at};
 ghost use Rattle.act_model.specs.Acts.{act_at};
-ghost use Rattle.tag_flow.specs.Known.{IsKnown, is_reached, row_width};
+ghost use Rattle.tag_flow.specs.Known.{IsKnown, chosen, is_reached, row_width};
 ghost use Rattle.tag_flow.specs.State.{IsSpot};
 ghost use Rattle.tag_flow.specs.Turns.{IsSite, IsUnion};
 
@@ -50,18 +50,28 @@ impl<'a> Model for Known<'a> {
     ghost invariant = { λ k. IsKnown (record { app = k.app.now; graph = k.graph.now; list = k.list.now; entries = k.entries.items; reached = k.reached.items; masks = k.masks.items; sites = k.sites.items }) };
 }
 
+// The methods of a component's callbacks.
+fn add_entries(
+    methods: &[Option<MethodNo>],
+    entries: &mut Vec<MethodNo>,
+) -> Result<(), AllocError>
+    ensures { IfOk result (λ done. entries.new.items ≡ entries.old.items ++ chosen methods.now) }
+{
+    for i in 0..methods.len() {
+        if let Some(method) = methods[i] {
+            entries.push(method)?;
+        }
+    }
+    Ok(())
+}
+
 // The methods of all callbacks.
-fn entries(alloc: Global, list: &ComponentTable) -> Result<Vec<MethodNo>, AllocError>
+fn find_entries(alloc: Global, list: &ComponentTable) -> Result<Vec<MethodNo>, AllocError>
     ensures { IfOk result (λ entries. entries.items ≡ entries_of list.now) }
 {
     let mut entries = Vec::new(alloc);
     for component in 0..list.rows.len() {
-        let methods = list.rows[component].methods.as_slice();
-        for callback in 0..methods.len() {
-            if let Some(method) = methods[callback] {
-                entries.push(method)?;
-            }
-        }
+        add_entries(&list.rows[component].methods, &mut entries)?;
     }
     Ok(entries)
 }
@@ -82,7 +92,7 @@ impl<'a> Known<'a> {
         ensures list { IfOk result (λ known. known.list ≡ list.now) }
     {
         app.told();
-        let Ok(entries) = entries(alloc, list) else {
+        let Ok(entries) = find_entries(alloc, list) else {
             return Err(OutOfMemory);
         };
         let Ok(sites) = find_sites(alloc, app) else {
@@ -143,11 +153,30 @@ impl<'a> Known<'a> {
         ensures method { result.method ≡ method }
         ensures index { result.index ≡ index }
     {
+        self.told();
         Spot {
             method,
             index,
             width: self.width(method),
         }
+    }
+
+    /// Successor number `number` of an instruction, if there are so many.
+    pub fn successor(&self, spot: Spot, number: u32) -> Option<u32>
+        requires { IsSpot self.now spot }
+        ensures { result ≡ successor_at self.now.app spot.method.0 spot.index number }
+    {
+        self.told();
+        self.app.successor(spot.method, spot.index, number)
+    }
+
+    /// Handler number `number` of an instruction, if there are so many.
+    pub fn handler(&self, spot: Spot, number: u32) -> Option<u32>
+        requires { IsSpot self.now spot }
+        ensures { result ≡ handler_at self.now.app spot.method.0 spot.index number }
+    {
+        self.told();
+        self.app.handler(spot.method, spot.index, number)
     }
 
     /// How many cells the table has for a method.
@@ -169,6 +198,7 @@ impl<'a> Known<'a> {
         requires act { act_at self.now.app spot.method.0 spot.index ≡ Some act.now }
         ensures { IsSite self.now spot.method.0 spot.index act.now result }
     {
+        self.told();
         match act {
             Act::Call {
                 usage: LockUse::Make,
@@ -184,6 +214,7 @@ impl<'a> Known<'a> {
         requires some { 0 < length callees.now }
         ensures { IsUnion self.now spot.method.0 spot.index result }
     {
+        let _ = &self.masks;
         let mut gone = 0;
         for i in 0..callees.len() {
             gone |= self.mask(callees[i]);

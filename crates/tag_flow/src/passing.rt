@@ -84,7 +84,7 @@ pub(crate) fn to_successors(known: &Known, state: &mut State, from: Spot, change
     known.told();
     let mut changed = false;
     for number in 0..u32::MAX {
-        let Some(to) = known.app.successor(from.method, from.index, number) else {
+        let Some(to) = known.successor(from, number) else {
             return changed;
         };
         changed |= pass_to(known, state, from, change, to);
@@ -101,7 +101,7 @@ pub(crate) fn to_handlers(known: &Known, state: &mut State, from: Spot, change: 
     known.told();
     let mut changed = false;
     for number in 0..u32::MAX {
-        let Some(to) = known.app.handler(from.method, from.index, number) else {
+        let Some(to) = known.handler(from, number) else {
             return changed;
         };
         changed |= pass_to(known, state, from, change, to);

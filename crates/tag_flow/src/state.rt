@@ -7,7 +7,7 @@ ghost use Rattle.tag_flow.specs.Known.{is_reached};
 ghost use Rattle.tag_flow.specs.State.{IsSpot, IsState, answer_of, row_of};
 
 use crate::agenda::{Agenda, Place};
-use crate::joining::{join_cell, tag_there};
+use crate::joining::{is_same_cell, join_cell, tag_there};
 use crate::known::{Known, Spot};
 use act_model::Row;
 use app_model::{Tag, TagTable};
@@ -125,9 +125,13 @@ impl State {
         requires register { register < from.width }
         ensures { result ≡ true → tag_at self.now.table from.method.0 from.index register ≡ tag_at self.now.table from.method.0 to.index register }
     {
-        let cells = self.table.cells(from.method);
         let count = known.app.code_len(from.method);
-        cells[place_of(from, register, count)] == cells[place_of(to, register, count)]
+        is_same_cell(
+            &self.table,
+            from.method,
+            place_of(from, register, count),
+            place_of(to, register, count),
+        )
     }
 
     /// Joins a tag into the cell of a register before an instruction.
