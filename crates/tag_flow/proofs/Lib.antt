@@ -14,3 +14,5 @@ pub mod Words
 pub mod Masks
 pub mod Spots
 pub mod Settled
+pub mod Entered
+pub mod Parts

@@ -87,6 +87,10 @@ leads_below k m i j _ sound lt (leads_thrown x a is can to) = (handler_below k.a
 leads_below k m i j _ sound lt (leads_past x gone union to) = (successor_below k.app m i sound lt x j to).0
 leads_below k m i j _ sound lt (leads_out x gone union to) = (handler_below k.app m i sound lt x j to).0
 
+-- where there is a number, what is done for it
+pub of_one : {A : Type 0} (k : KnownParts) (o : Option A) (j : A) (part : A → StateParts → Type 0) (a b : StateParts) (moved : Bool) → o ≡ Some j → Turn k (part j) a b moved → Turn k (λ s. (n : A) → o ≡ Some n → part n s) a b moved
+of_one k o j part a b moved is = turn_as k (part j) (λ s. (n : _) → o ≡ Some n → part n s) a b moved (λ s h n on. (let both : Some j ≡ Some n = sym is ∙ on in let same : j ≡ n = cc in subst (λ i. part i s) same h))
+
 -- a loop over all elements of a list
 pub turn_each : {A : Type 0} (k : KnownParts) (xs : List A) (part : A → StateParts → Type 0) (a b : StateParts) (moved : Bool)
     → Turn k (Below (λ x s. (n : A) → slice_get xs x ≡ Some n → part n s) (length xs)) a b moved → Turn k (λ s. (n : A) → Contains xs n → part n s) a b moved

@@ -1,5 +1,5 @@
 -- What a part of the work does to the table.
-use Rattle.std.specs.Prelude.{ℕ, ◌≡◌, ◌≢◌, ◌<◌, ◌≤◌, Bool, true, false, ◌&&◌, ◌||◌, not, List, length, Some, Contains}
+use Rattle.std.specs.Prelude.{ℕ, ◌≡◌, ◌≢◌, ◌<◌, ◌≤◌, Bool, true, false, ◌&&◌, ◌||◌, not, List, length, Option, Some, None, Contains}
 use Rattle.app_model.specs.CallGraph.{callees_at, outside_at}
 use Rattle.app_model.specs.Components.{entries_of}
 use Rattle.app_model.specs.Masks.{in_lock_mask}
@@ -79,6 +79,15 @@ pub record Begins (k : KnownParts) (to : Spot) : Type 0 where
 -- an act leads on by itself; a call where it leads outside
 abbrev pub goes_by_itself : Act → (outside : Bool) → Bool
 goes_by_itself a outside = leads_on a && (not (is_call a) || outside)
+
+-- how a call hands its arguments on, and what a return answers
+abbrev pub handing_of : Act → Option Handing
+handing_of (Call how usage arguments gives) = Some (record { by = how; args = arguments })
+handing_of a = None
+
+abbrev pub returned_of : Act → Option Returned
+returned_of (Return answer) = Some answer
+returned_of a = None
 
 -- ---- parts of the work
 -- the tag is above what the returns of a method give

@@ -6,7 +6,7 @@ ghost use Rattle.act_model.specs.Acts.{act_at};
 ghost use Rattle.act_model.specs.Changes.{tag_in};
 ghost use Rattle.flow_model.specs.TagFlow as flow;
 ghost use Rattle.tag_flow.specs.State.{IsSource, IsSpot, row_of};
-ghost use Rattle.tag_flow.specs.Turns.{Enters, IsUnion, Turn};
+ghost use Rattle.tag_flow.specs.Turns.{Enters, IsUnion, Turn, handing_of, returned_of};
 ghost use Rattle.tag_flow.specs.Goals.{AnswerAt, Below, CallPassed, CalleeDone, CalleeNoDone, CameBack, Called, CellUnder, Entered, GaveBack, RowPassed, entering_row};
 
 use crate::change::Change;
@@ -26,6 +26,15 @@ pub(crate) struct Handing {
     pub args: Args,
 }
 
+fn handing_of(act: &Act) -> Option<Handing>
+    ensures { result ≡ handing_of act.now }
+{
+    match *act {
+        Act::Call { by, args, .. } => Some(Handing { by, args }),
+        _ => None,
+    }
+}
+
 // ---- into a callee
 
 fn enter_cell(
@@ -42,8 +51,7 @@ fn enter_cell(
     ensures { Turn known.now (CellUnder known.now to.method.0 0 (entering_row known.now from.method.0 from.index to.method.0 handing.by handing.args) register) state.old state.new result }
 {
     known.told();
-    known.app.told();
-    let method = known.app.method(to.method);
+    let method = known.method(to.method);
     let tag = called_tag(&state.row(from), handing.by, &handing.args, method, register);
     state.join(known, to, register, tag)
 }
@@ -67,14 +75,14 @@ fn enter(known: &Known, state: &mut State, from: Spot, act: Act, callee: MethodN
     ensures { Turn known.now (Entered known.now from.method.0 from.index act callee) state.old state.new result }
 {
     known.told();
-    let Act::Call { by, args, .. } = act else {
+    let Some(handing) = handing_of(&act) else {
         return false;
     };
-    if known.app.code_len(callee) == 0 {
+    if known.code_len(callee) == 0 {
         return false;
     }
     let to = known.spot(callee, 0);
-    enter_row(known, state, from, Handing { by, args }, to)
+    enter_row(known, state, from, handing, to)
 }
 
 // ---- back from a callee
@@ -131,7 +139,7 @@ fn call_all(
     requires source { IsSource known.now state.old from }
     requires act { act_at known.now.app from.method.0 from.index ≡ Some act }
     requires callees { callees.now ≡ callees_at known.now.graph from.method.0 from.index }
-    ensures { Turn known.now (Below (CalleeNoDone known.now from.method.0 from.index act) (length callees.now)) state.old state.new result }
+    ensures { Turn known.now (Below (CalleeNoDone known.now from.method.0 from.index act) (length (callees_at known.now.graph from.method.0 from.index))) state.old state.new result }
 {
     let mut changed = false;
     for i in 0..callees.len() {
@@ -157,8 +165,9 @@ pub(crate) fn call(known: &Known, state: &mut State, from: Spot, act: Act) -> bo
     requires act { act_at known.now.app from.method.0 from.index ≡ Some act }
     ensures { Turn known.now (Called known.now from.method.0 from.index act) state.old state.new result }
 {
-    let callees = known.graph.callees(from.method, from.index);
-    if callees.is_empty() {
+    let callees = known.callees(from);
+    let count = callees.len();
+    if count == 0 {
         return false;
     }
     let gone = known.gone(from, callees);
@@ -168,6 +177,15 @@ pub(crate) fn call(known: &Known, state: &mut State, from: Spot, act: Act) -> bo
 }
 
 // ---- a return
+
+fn returned_of(act: &Act) -> Option<Returned>
+    ensures { result ≡ returned_of act.now }
+{
+    match *act {
+        Act::Return { returned } => Some(returned),
+        _ => None,
+    }
+}
 
 fn answered<R: Row>(row: &R, returned: Returned) -> Tag
     ensures { result ≡ flow.answered returned (R.tags row.now) }
@@ -186,7 +204,7 @@ pub(crate) fn give_back(known: &Known, state: &mut State, from: Spot, act: Act) 
     ensures { Turn known.now (GaveBack known.now from.method.0 from.index act) state.old state.new result }
 {
     known.told();
-    let Act::Return { returned } = act else {
+    let Some(returned) = returned_of(&act) else {
         return false;
     };
     let tag = answered(&state.row(from), returned);

@@ -1,6 +1,6 @@
 //! What is known of an application before its tags are.
-ghost use Rattle.std.specs.Prelude.{◌≡◌, ◌<◌, ◌≤◌, ◌^◌, ◌++◌, IfOk, length, Some, slice_index, true};
-ghost use Rattle.app_model.specs.CallGraph.{callees_at};
+ghost use Rattle.std.specs.Prelude.{◌≡◌, ◌<◌, ◌≤◌, ◌^◌, ◌++◌, ◌+◌, IfOk, length, Some, slice_get, slice_index, true};
+ghost use Rattle.app_model.specs.CallGraph.{callees_at, outside_at};
 ghost use Rattle.app_model.specs.Components.{BelongsTo, entries_of};
 ghost use Rattle.app_model.specs.Sites.{sites_below};
 ghost use Rattle.app_model.specs.TagTable.{cells_of};
@@ -12,8 +12,8 @@ ghost use Rattle.tag_flow.specs.State.{IsSpot};
 ghost use Rattle.tag_flow.specs.Turns.{IsSite, IsUnion};
 
 use crate::sites::{Site, find_sites, site_of};
-use act_model::Act;
-use app_model::{App, CallGraph, ComponentTable, LockUse};
+use act_model::{Act, act_of};
+use app_model::{App, CallGraph, ComponentTable, LockUse, MethodRow};
 use call_reach::{assigns, reach};
 use ns_base::{MethodNo, OutOfMemory};
 use std::alloc::{AllocError, Global};
@@ -135,6 +135,17 @@ impl<'a> Known<'a> {
         }
     }
 
+    pub fn method(&self, method: MethodNo) -> &MethodRow
+        requires { method.0 < length self.now.app.methods }
+        ensures is { slice_get self.now.app.methods method.0 ≡ Some result.now }
+        ensures ins { result.now.ins ≤ result.now.registers }
+        ensures width { row_width self.now.app method.0 ≡ result.now.registers + 1 }
+        ensures proto { result.now.proto.0 < length self.now.app.protos }
+    {
+        self.told();
+        self.app.method(method)
+    }
+
     /// How many cells a row of a method has.
     pub fn width(&self, method: MethodNo) -> usize
         requires { method.0 < length self.now.app.methods }
@@ -142,7 +153,7 @@ impl<'a> Known<'a> {
         ensures narrow { result ≤ 2 ^ 16 }
         ensures some { 0 < result }
     {
-        self.app.method(method).registers as usize + 1
+        self.method(method).registers as usize + 1
     }
 
     /// An instruction of a method that is reached.
@@ -159,6 +170,37 @@ impl<'a> Known<'a> {
             index,
             width: self.width(method),
         }
+    }
+
+    /// How many instructions a method has.
+    pub fn code_len(&self, method: MethodNo) -> u32
+        requires { method.0 < length self.now.app.methods }
+        ensures { result ≡ code_len self.now.app method.0 }
+    {
+        self.app.code_len(method)
+    }
+
+    /// What an instruction does.
+    pub fn act(&self, spot: Spot) -> Act
+        requires { IsSpot self.now spot }
+        ensures { act_at self.now.app spot.method.0 spot.index ≡ Some result }
+    {
+        self.told();
+        act_of(self.app, spot.method, spot.index)
+    }
+
+    /// The methods that an instruction can call.
+    pub fn callees(&self, spot: Spot) -> &[MethodNo]
+        ensures { result.now ≡ callees_at self.now.graph spot.method.0 spot.index }
+    {
+        self.graph.callees(spot.method, spot.index)
+    }
+
+    /// Whether an instruction can call what is outside the application.
+    pub fn outside(&self, spot: Spot) -> bool
+        ensures { result ≡ outside_at self.now.graph spot.method.0 spot.index }
+    {
+        self.graph.outside(spot.method, spot.index)
     }
 
     /// Successor number `number` of an instruction, if there are so many.

@@ -168,6 +168,7 @@ impl State {
         ensures joins { Joins self.old.answers 0 method.0 tag self.new.answers result }
         ensures table { self.new.table ≡ self.old.table }
     {
+        known.told();
         let changed = join_cell(&mut self.answers, MethodNo(0), method.0 as usize, tag);
         if changed {
             self.agenda.add_callers(method, tag);

@@ -23,8 +23,8 @@ fn begin_cell(known: &Known, state: &mut State, to: Spot, register: usize) -> bo
     ensures { Turn known.now (CellUnder known.now to.method.0 0 (begun_row known.now to.method.0) register) state.old state.new result }
 {
     known.told();
-    known.app.told();
-    let tag = callback_tag(known.app, known.app.method(to.method), register);
+    let method = known.method(to.method);
+    let tag = callback_tag(known.app, method, register);
     state.join(known, to, register, tag)
 }
 
@@ -46,7 +46,7 @@ fn begin(known: &Known, state: &mut State, method: MethodNo) -> bool
     ensures { Turn known.now (EntryBegun known.now method) state.old state.new result }
 {
     known.told();
-    if known.app.code_len(method) == 0 {
+    if known.code_len(method) == 0 {
         return false;
     }
     let to = known.spot(method, 0);
@@ -85,7 +85,7 @@ fn visit_code(known: &Known, state: &mut State, method: MethodNo) -> bool
     ensures { Turn known.now (Below (IsVisited known.now method.0) (code_len known.now.app method.0)) state.old state.new result }
 {
     let mut changed = false;
-    for index in 0..known.app.code_len(method) {
+    for index in 0..known.code_len(method) {
         let spot = known.spot(method, index);
         changed |= visit(known, state, spot);
     }
@@ -122,7 +122,7 @@ fn look(known: &Known, state: &mut State, place: Place)
     if method.0 >= known.app.method_count() || !known.is_reached(method) {
         return;
     }
-    if place.index < known.app.code_len(method) {
+    if place.index < known.code_len(method) {
         let spot = known.spot(method, place.index);
         visit(known, state, spot);
     }

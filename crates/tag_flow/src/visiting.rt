@@ -12,7 +12,7 @@ use crate::change::Change;
 use crate::known::{Known, Spot};
 use crate::passing::{to_handlers, to_successors};
 use crate::state::State;
-use act_model::{Act, Throws, act_of};
+use act_model::{Act, Throws};
 
 fn may_throw(throws: Throws) -> bool
     ensures { result ≡ flow.may_throw throws }
@@ -58,7 +58,7 @@ fn go_on(known: &Known, state: &mut State, from: Spot, act: Act) -> bool
     requires act { act_at known.now.app from.method.0 from.index ≡ Some act }
     ensures { Turn known.now (WentOn known.now from.method.0 from.index act) state.old state.new result }
 {
-    if !goes_by_itself(&act, known.graph.outside(from.method, from.index)) {
+    if !goes_by_itself(&act, known.outside(from)) {
         return false;
     }
     let site = known.site(from, &act);
@@ -106,7 +106,7 @@ pub(crate) fn visit(known: &Known, state: &mut State, spot: Spot) -> bool
     if !state.is_live(known, spot) {
         return false;
     }
-    let act = act_of(known.app, spot.method, spot.index);
+    let act = known.act(spot);
     let gone = go_or_throw(known, state, spot, act);
     let called = call_or_return(known, state, spot, act);
     gone | called

@@ -1,11 +1,12 @@
-use Rattle.std.proofs.Common.{rules}
+use Rattle.std.proofs.Common.{◌≡◌, ◌≢◌, ◌∙◌, sym, rules}
 use Rattle.app_model.specs.TagTable.{HasCell}
 use Rattle.tag_flow.proofs.Cells.{join_kept, none_joins, put_joins}
 use Rattle.tag_flow.proofs.joining.join_cell.Goals as goal
 
 pub returns-then-eq : goal.returns-then-eq
 returns-then-eq c =
-    none_joins _ _ _ _ _ (rw c.tag_there-before.ensures at c.join-joined.ensures) (search rules)
+    let same : c.join-joined.result ≡ c.tag_there-before.result = search rules in
+    none_joins _ _ _ _ c.join-joined.result (rw c.tag_there-before.ensures at c.join-joined.ensures) (same ∙ c.tag_there-before.ensures)
 
 pub put-requires-clause-fits : goal.put-requires-clause-fits
 put-requires-clause-fits c =
@@ -13,4 +14,5 @@ put-requires-clause-fits c =
 
 pub returns : goal.returns
 returns c =
-    rw c.put.ensures (put_joins _ _ _ _ (join_kept HasCell _ _ _ tt tt c.join-joined.ensures (rw c.tag_there-before.ensures c.requires.before) c.requires.tag) c.requires.place _ (rw c.tag_there-before.ensures at c.join-joined.ensures) (λ e. c.if-eq.false (search rules)))
+    let differ : c.join-joined.result ≢ c.tag_there-before.result = search rules in
+    rw c.put.ensures (put_joins _ _ _ c.join-joined.result (join_kept HasCell _ _ _ tt tt c.join-joined.ensures (rw c.tag_there-before.ensures c.requires.before) c.requires.tag) c.requires.place _ (rw c.tag_there-before.ensures at c.join-joined.ensures) (λ e. differ (e ∙ sym c.tag_there-before.ensures)))

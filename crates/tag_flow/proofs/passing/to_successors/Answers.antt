@@ -1,7 +1,8 @@
 use Rattle.std.proofs.Common.{arith, sym}
+use Rattle.app_model.specs.Words.{successor_at}
 use Rattle.tag_flow.specs.Goals.{RowPassed, row_after}
 use Rattle.tag_flow.proofs.Turns.{source_kept, turn_more, turn_start}
-use Rattle.tag_flow.proofs.Loops.{successors_end, successors_none}
+use Rattle.tag_flow.proofs.Loops.{of_one, successors_end, successors_none}
 use Rattle.tag_flow.proofs.passing.to_successors.Goals as goal
 
 pub pass_to-changed-requires-clause-source : goal.pass_to-changed-requires-clause-source
@@ -18,7 +19,9 @@ loop-number-init c =
 
 pub loop-number-preserved : goal.loop-number-preserved
 loop-number-preserved c =
-    turn_more _ _ _ _ _ _ _ _ c.loop-number.invariant c.pass_to-changed.ensures
+    let k = c.args.known.now in
+    let from = c.args.from in
+    turn_more _ _ _ _ _ _ _ _ c.loop-number.invariant (of_one k (successor_at k.app from.method.0 from.index c.loop-number.number) c.in-Some.to (λ j. RowPassed k from.method.0 j (row_after from.method.0 from.index c.args.change)) _ _ _ (sym c.in-Some.ensures) c.pass_to-changed.ensures)
 
 pub returns-in_default : goal.returns-in_default
 returns-in_default c =

@@ -1,0 +1,6 @@
+use Rattle.tag_flow.proofs.Words.{argument_none}
+use Rattle.tag_flow.proofs.entering.argument_tag.Goals as goal
+
+pub returns-in-None : goal.returns-in-None
+returns-in-None c =
+    argument_none _ _ _ c.in-None.ensures
