@@ -1,6 +1,6 @@
 -- Which lock fields and sites acts of an application name.
 use Rattle.std.proofs.Common.{◌≡◌, ℕ, ◌<◌, ◌≤◌, ◌==◌, Bool, true, false, if◌then◌else◌, List, [], ◌∷◌, length, Option, Some, None, refl, sym, ap, ◌∙◌, bytes_eq, subst, get_or, ⊎_elim, arith}
-use Rattle.std.specs.Prelude.{slice_get}
+use Rattle.std.specs.Prelude.{slice_get, slice_set}
 use Rattle.std.proofs.lemmas.Bool.{cases_lt}
 use Rattle.std.proofs.lemmas.List.{get_or_past}
 use Rattle.std.proofs.lemmas.List.Quantifiers.{position-Some}
@@ -12,7 +12,7 @@ use Rattle.dalvik.specs.declared.ins.Ins.{Ins}
 use Rattle.dalvik.specs.declared.ins.Ins.TheVariants as ins
 use Rattle.dalvik.specs.declared.opcode.TheConstants.{IF_EQZ, IF_NEZ, MONITOR_ENTER, MOVE_RESULT_WIDE}
 use Rattle.app_model.specs.declared.lock_use.LockUse.{LockUse}
-use Rattle.app_model.specs.declared.lock_use.LockUse.TheVariants.{Make}
+use Rattle.app_model.specs.declared.lock_use.LockUse.TheVariants.{Plain, Make, Acquire, Release, IsHeld, Mode, Wrong}
 use Rattle.app_model.specs.declared.rows.NamedField.{NamedField}
 use Rattle.app_model.specs.Hierarchy.{line_of, lock_in, lock_of, nearest, or_else}
 use Rattle.app_model.specs.LockUse.{lock_use_at}
@@ -23,9 +23,14 @@ use Rattle.app_model.specs.Slots.{is_object_access, lock_named, slot_at}
 use Rattle.app_model.specs.Words.{IsApp, code_len, field_named_at, ins_at, ins_of, no_body, place_at, places_of}
 use Rattle.act_model.specs.declared.act.Act.{Act}
 use Rattle.act_model.specs.declared.act.Act.TheVariants.{Go, Check, ReadSlot, TakeResult, Test, Write, WriteSlot, Call}
+use Rattle.app_model.specs.declared.tag.Tag.{Tag}
+use Rattle.dalvik.specs.Calls.{receiver_of}
+use Rattle.act_model.specs.Changes.{after, result_cell, result_tag, tag_in, thrown}
+use Rattle.act_model.specs.declared.act.Gives.{Gives}
 use Rattle.act_model.specs.declared.act.Throws.{Throws}
 use Rattle.act_model.specs.declared.act.Throws.TheVariants.{Never, WhereZero}
 use Rattle.act_model.specs.declared.act.Written.TheVariants as written
+use Rattle.tag_flow.specs.Turns.{makes_lock}
 use Rattle.act_model.specs.Acts.{act_at, act_by, act_of, read_act, write_act}
 
 -- ---- what an access names
@@ -54,15 +59,11 @@ slot_below app m i l is = by (is_object_access (ins_at app m i)) is
     by true is = named_below app (field_named_at app m i) l is
     by false is = cc
 
--- ---- the lock field that an act reads or writes, and whether it makes a lock
+-- ---- the lock field that an act reads or writes
 abbrev pub named_slot : Act → Option ℕ
 named_slot (ReadSlot to l when) = Some l.0
 named_slot (WriteSlot from l when) = Some l.0
 named_slot _ = None
-
-abbrev pub makes_lock : Act → Bool
-makes_lock (Call by usage arguments gives) = is_make usage
-makes_lock _ = false
 
 either_named : {A : Type 0} (f : Act → A) (b : Bool) (x y : Act) (o : A) → f x ≡ o → f y ≡ o → f (if b then x else y) ≡ o
 either_named f true x y o a b = a
@@ -140,3 +141,18 @@ act_there app m i lt = ⊎_elim (λ h. (act_of app m i h.0.ins, rw h.2 refl)) (�
 pub method_within : (app : AppParts) (m i : ℕ) → IsApp app → i < code_len app m → m < length app.methods
 unfolding places_of
 method_within app m i sizes lt = ⊎_elim (λ (l : m < length app.code). (let e = sizes.code in omega arith)) (λ past. absurd (let e = get_or_past app.code m no_body past in let h : i < 0 = subst (λ (body : BodyRows). i < length body.places) e lt in omega arith)) (cases_lt m (length app.code))
+
+-- ---- the site of an act that makes no lock
+result_any : (s t : ℕ) (usage : LockUse) (gives : Gives) (receiver : Tag) → is_make usage ≡ false → result_tag s usage gives receiver ≡ result_tag t usage gives receiver
+result_any s t Make gives receiver off = absurd (cc)
+result_any s t Plain gives receiver off = refl
+result_any s t Acquire gives receiver off = refl
+result_any s t Release gives receiver off = refl
+result_any s t IsHeld gives receiver off = refl
+result_any s t Mode gives receiver off = refl
+result_any s t Wrong gives receiver off = refl
+
+pub any_site : (s t : ℕ) (a : Act) → makes_lock a ≡ false → (row : List Tag) → after s a row ≡ after t a row
+any_site s t (Call how usage arguments gives) off row =
+    ap (λ x. slice_set (thrown (Call how usage arguments gives) row) (result_cell row) x) (result_any s t usage gives (tag_in row (receiver_of arguments)) off)
+any_site s t _ off row = refl

@@ -35,8 +35,8 @@ use Rattle.act_model.specs.Acts.{act_at}
 use Rattle.tag_flow.specs.declared.change.Change.{Change}
 use Rattle.tag_flow.specs.declared.sites.Site.{Site}
 use Rattle.tag_flow.specs.Known.{IsKnown, KnownParts}
-use Rattle.tag_flow.specs.Turns.{Leads, leads_after, leads_thrown, leads_past, leads_out, changed}
-use Rattle.tag_flow.proofs.Acts.{act_made, act_slot, act_within, makes_lock, method_within, named_slot}
+use Rattle.tag_flow.specs.Turns.{Leads, leads_after, leads_thrown, leads_past, leads_out, changed, makes_lock}
+use Rattle.tag_flow.proofs.Acts.{act_made, act_slot, act_within, method_within, named_slot}
 
 module _ (locks : ℕ) where
   abbrev Fits : Tag → Type 0

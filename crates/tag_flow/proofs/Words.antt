@@ -1,9 +1,11 @@
 -- Single tags of the rows at the start of methods.
 use Rattle.std.proofs.Common.{◌≡◌, ◌≢◌, ℕ, suc, zero, pred, ◌+◌, ◌-◌, ◌<◌, ◌≤◌, List, [], ◌∷◌, ◌++◌, length, get_or, map, drop, replicate, Bool, true, false, if◌then◌else◌, min, Option, Some, None, refl, sym, ap, ◌∙◌, subst, ⊎_elim, arith, lt-ltb, le-ltb}
 use Rattle.std.specs.Prelude.{slice_get, nat_lt}
-use Rattle.std.proofs.lemmas.Bool.{cases_lt}
+use Rattle.std.specs.List.{range_with_len}
+use Rattle.std.proofs.lemmas.List.FromFn.{get_or-range_with_len, length-range_with_len}
+use Rattle.std.proofs.lemmas.Bool.{cases_lt, false≢true, ltb-true}
 use Rattle.std.proofs.lemmas.List.{get_or_append_left, get_or-append_right, get_or_past, get_or-replicate, get_or-map, length-append, length-map, length-replicate}
-use Rattle.std.proofs.lemmas.Option.{slice_get_cases}
+use Rattle.std.proofs.lemmas.Option.{slice_get-get_or, slice_get_cases, slice_get_past}
 use Rattle.app_model.specs.declared.tag.Tag.{Tag}
 use Rattle.app_model.specs.declared.tag.Tag.TheVariants.{Bot, Zero, Solid, Any}
 use Rattle.act_model.specs.Changes.{tag_in}
@@ -79,3 +81,22 @@ callback_any p (suc j) words most is ne low lt = sym (get_or-replicate p j Any Z
 pub callback_zero : (p j words most : ℕ) → words ≡ min p most → j ≢ 0 → j < most → words ≤ j - 1 → Zero ≡ get_or (Solid ∷ replicate p Any) j Zero
 callback_zero p zero words most is ne low le = absurd (ne refl)
 callback_zero p (suc j) words most is ne low le = sym (get_or_past (replicate p Any) j Zero (let e = length-replicate {A = Tag} p Any in omega (arith, is, le, low, e)))
+
+-- ---- registers of arguments by range
+pub range_some : (first count j : ℕ) → j < count → Some (first + j) ≡ slice_get (range_with_len first count) j
+range_some first count j lt = sym (slice_get-get_or (range_with_len first count) j 0 (omega (arith, lt, length-range_with_len first count)) ∙ ap Some (get_or-range_with_len first count j 0 lt))
+
+pub range_none : (first count j : ℕ) → count ≤ j → None ≡ slice_get (range_with_len first count) j
+range_none first count j past = sym (slice_get_past (range_with_len first count) j (omega (arith, past, length-range_with_len first count)))
+
+-- a word of the arguments is one of the registers for them
+pub word_below : (registers ins r j : ℕ) → ins ≤ registers → Some j ≡ word_no registers ins r → j < ins
+word_below registers ins r j le is = go (nat_lt r (registers - ins)) (nat_lt r registers) refl refl is
+  where
+    go : (a b : Bool) → nat_lt r (registers - ins) ≡ a → nat_lt r registers ≡ b → Some j ≡ (if a then None else (if b then Some (r - (registers - ins)) else None)) → j < ins
+    go true b ea eb e = absurd (cc)
+    go false false ea eb e = absurd (cc)
+    go false true ea eb e = (let at : j ≡ r - (registers - ins) = cc in let lt = ltb-true r registers eb in omega (arith, at, lt, le, later))
+      where
+        later : registers - ins ≤ r
+        later = ⊎_elim (λ first. absurd (false≢true (sym ea ∙ lt-ltb r (registers - ins) first))) (λ past. past) (cases_lt r (registers - ins))

@@ -3,7 +3,7 @@ use Rattle.std.specs.Prelude.{ℕ, ◌≡◌, ◌≢◌, ◌<◌, ◌≤◌, Boo
 use Rattle.app_model.specs.CallGraph.{callees_at, outside_at}
 use Rattle.app_model.specs.Components.{entries_of}
 use Rattle.app_model.specs.Masks.{in_lock_mask}
-use Rattle.app_model.specs.Sites.{site_at}
+use Rattle.app_model.specs.Sites.{is_make, site_at}
 use Rattle.app_model.specs.TagTable.{TagParts, row_at}
 use Rattle.app_model.specs.Words.{handler_at, successor_at}
 use Rattle.app_model.specs.declared.tag.Tag.{Tag}
@@ -79,6 +79,11 @@ pub record Begins (k : KnownParts) (to : Spot) : Type 0 where
 -- an act leads on by itself; a call where it leads outside
 abbrev pub goes_by_itself : Act → (outside : Bool) → Bool
 goes_by_itself a outside = leads_on a && (not (is_call a) || outside)
+
+-- whether a call makes a lock
+abbrev pub makes_lock : Act → Bool
+makes_lock (Call how usage arguments gives) = is_make usage
+makes_lock a = false
 
 -- how a call hands its arguments on, and what a return answers
 abbrev pub handing_of : Act → Option Handing

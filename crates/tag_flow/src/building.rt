@@ -28,7 +28,7 @@ fn is_small(known: &Known) -> bool
     ensures { (result ≡ true) ↔ (cell_total known.now.app (is_reached known.now) ≤ limit_of TagCells) }
 {
     let mut total = 0;
-    for method in 0..known.app.method_count() {
+    for method in 0..known.method_count() {
         total += known.cells_of(MethodNo(method));
         if total > limit(Counted::TagCells) {
             return false;
@@ -48,7 +48,7 @@ fn make_rows(alloc: Global, known: &Known) -> Result<Vec<Vec<u16>>, AllocError>
     ensures { IfOk result (λ rows. AreRows known.now (length known.now.app.methods) (map (λ v. v.items) rows.items)) }
 {
     let mut rows = Vec::new(alloc);
-    for method in 0..known.app.method_count() {
+    for method in 0..known.method_count() {
         let cells = empty_cells(alloc, known.cells_of(MethodNo(method)) as usize)?;
         rows.push(cells)?;
     }
@@ -90,7 +90,7 @@ fn begin(alloc: Global, known: &Known) -> Result<State, AllocError>
     ensures below { IfOk result (IsBelow known.now) }
 {
     let table = make_table(alloc, known)?;
-    let answers = make_answers(alloc, known.app.method_count())?;
+    let answers = make_answers(alloc, known.method_count())?;
     let agenda = Agenda::new(alloc, known)?;
     Ok(State::new(table, answers, agenda))
 }

@@ -9,11 +9,11 @@ ghost use Rattle.app_model.specs.Words.{code_len, handler_at, successor_at};
 ghost use Rattle.act_model.specs.Acts.{act_at};
 ghost use Rattle.tag_flow.specs.Known.{IsKnown, chosen, is_reached, row_width};
 ghost use Rattle.tag_flow.specs.State.{IsSpot};
-ghost use Rattle.tag_flow.specs.Turns.{IsSite, IsUnion};
+ghost use Rattle.tag_flow.specs.Turns.{IsSite, IsUnion, makes_lock};
 
-use crate::sites::{Site, find_sites, site_of};
+use crate::sites::{Site, find_sites, is_make, site_of};
 use act_model::{Act, act_of};
-use app_model::{App, CallGraph, ComponentTable, LockUse, MethodRow};
+use app_model::{App, CallGraph, ComponentTable, MethodRow};
 use call_reach::{assigns, reach};
 use ns_base::{MethodNo, OutOfMemory};
 use std::alloc::{AllocError, Global};
@@ -48,6 +48,15 @@ impl<'a> Model for Known<'a> {
     ghost view = { λ k. record { app = k.app.now; graph = k.graph.now; list = k.list.now; entries = k.entries.items; reached = k.reached.items; masks = k.masks.items; sites = k.sites.items } };
 
     ghost invariant = { λ k. IsKnown (record { app = k.app.now; graph = k.graph.now; list = k.list.now; entries = k.entries.items; reached = k.reached.items; masks = k.masks.items; sites = k.sites.items }) };
+}
+
+fn makes_lock(act: &Act) -> bool
+    ensures { result ≡ makes_lock act.now }
+{
+    match *act {
+        Act::Call { usage, .. } => is_make(usage),
+        _ => false,
+    }
 }
 
 // The methods of a component's callbacks.
@@ -172,6 +181,12 @@ impl<'a> Known<'a> {
         }
     }
 
+    pub fn method_count(&self) -> u32
+        ensures { result ≡ length self.now.app.methods }
+    {
+        self.app.method_count()
+    }
+
     /// How many instructions a method has.
     pub fn code_len(&self, method: MethodNo) -> u32
         requires { method.0 < length self.now.app.methods }
@@ -241,13 +256,10 @@ impl<'a> Known<'a> {
         ensures { IsSite self.now spot.method.0 spot.index act.now result }
     {
         self.told();
-        match act {
-            Act::Call {
-                usage: LockUse::Make,
-                ..
-            } => site_of(&self.sites, spot.method, spot.index),
-            _ => 0,
+        if !makes_lock(act) {
+            return 0;
         }
+        site_of(&self.sites, spot.method, spot.index)
     }
 
     /// The lock fields to which the reach of some callee of an instruction stores.

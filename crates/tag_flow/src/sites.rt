@@ -17,7 +17,7 @@ pub(crate) struct Site {
     pub index: u32,
 }
 
-fn is_make(usage: LockUse) -> bool
+pub(crate) fn is_make(usage: LockUse) -> bool
     ensures { result ≡ is_make usage }
 {
     matches!(usage, LockUse::Make)

@@ -97,7 +97,7 @@ fn visit_all(known: &Known, state: &mut State) -> bool
     ensures { Turn known.now (Below (MethodVisited known.now) (length known.now.app.methods)) state.old state.new result }
 {
     let mut changed = false;
-    for method in 0..known.app.method_count() {
+    for method in 0..known.method_count() {
         changed |= visit_method(known, state, MethodNo(method));
     }
     changed
@@ -119,7 +119,7 @@ fn look(known: &Known, state: &mut State, place: Place)
     ensures { Holds known.now state.old state.new }
 {
     let method = place.method;
-    if method.0 >= known.app.method_count() || !known.is_reached(method) {
+    if method.0 >= known.method_count() || !known.is_reached(method) {
         return;
     }
     if place.index < known.code_len(method) {
@@ -150,6 +150,7 @@ pub(crate) fn close(known: &Known, state: &mut State)
     ensures below { IsBelow known.now state.new }
     ensures closed { IsClosed known.now state.new.table }
 {
+    known.told();
     begin_entries(known, state);
     let mut changed = true;
     while changed {

@@ -7,7 +7,7 @@ use Rattle.tag_flow.proofs.calling.call.Goals as goal
 
 pub returns-then-count-eq0 : goal.returns-then-count-eq0
 returns-then-count-eq0 c =
-    turn_none _ _ _ (λ n there. absurd (omega (arith, there.1, c.if-count-eq0.true, c.len-count.ensures, ap length c.callees-callees.ensures)))
+    turn_none _ _ _ (λ n there. absurd (omega (arith, there.1, c.if-count-eq0.true, ap length c.callees-callees.ensures)))
 
 pub call_all-called-requires-clause-source : goal.call_all-called-requires-clause-source
 call_all-called-requires-clause-source c =

@@ -31,4 +31,4 @@ pub returns : goal.returns
 returns c =
     let k = c.args.known.now in
     let from = c.args.from in
-    entered _ _ _ _ _ c.in-Some.handing _ _ _ c.in-Some.ensures (subst (λ (n : MethodNo). Turn k (RowPassed k n.0 0 (entering_row k from.method.0 from.index n.0 c.in-Some.handing.by c.in-Some.handing.args)) c.args.state.old c.enter_row.new.state c.enter_row.result) c.spot-to.ensures.method c.enter_row.ensures)
+    entered _ _ _ _ _ c.in-Some.handing _ _ _ c.in-Some.ensures (subst (λ (n : MethodNo). Turn k (RowPassed k n.0 0 (entering_row k from.method.0 from.index n.0 c.in-Some.handing.by c.in-Some.handing.args)) c.args.state.now c.enter_row.new.state c.enter_row.result) c.spot-to.ensures.method c.enter_row.ensures)

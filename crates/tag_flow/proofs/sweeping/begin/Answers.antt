@@ -25,4 +25,4 @@ begin_row-requires-clause-begins c =
 pub returns : goal.returns
 returns c =
     let k = c.args.known.now in
-    turn_as _ _ _ _ _ _ (λ s h lt. h) (subst (λ (n : MethodNo). Turn k (RowPassed k n.0 0 (begun_row k n.0)) c.args.state.old c.begin_row.new.state c.begin_row.result) c.spot-to.ensures.method c.begin_row.ensures)
+    turn_as _ _ _ _ _ _ (λ s h lt. h) (subst (λ (n : MethodNo). Turn k (RowPassed k n.0 0 (begun_row k n.0)) c.args.state.now c.begin_row.new.state c.begin_row.result) c.spot-to.ensures.method c.begin_row.ensures)

@@ -1,6 +1,4 @@
-use Rattle.std.proofs.Common.{arith}
-use Rattle.tag_flow.proofs.Closed.{closed, turn_falls}
-use Rattle.tag_flow.proofs.Turns.{holds_more}
+use Rattle.tag_flow.proofs.Closed.{closed}
 use Rattle.tag_flow.proofs.sweeping.close.Goals as goal
 
 pub loop-changed-preserved : goal.loop-changed-preserved
@@ -10,4 +8,4 @@ loop-changed-preserved c =
 
 pub returns-clause-closed : goal.returns-clause-closed
 returns-clause-closed c =
-    closed _ (search rules) _ c.loop-changed.invariant.state (c.loop-changed.invariant.done c.loop-changed-test.false)
+    closed _ c.told.ensures _ c.loop-changed.invariant.state (c.loop-changed.invariant.done c.loop-changed-test.false)

@@ -1,3 +1,6 @@
+use Rattle.std.proofs.Common.{subst}
+use Rattle.tag_flow.specs.State.{StateParts}
+use Rattle.tag_flow.specs.Turns.{Holds}
 use Rattle.tag_flow.proofs.Turns.{holds_more, holds_none}
 use Rattle.tag_flow.proofs.sweeping.settle.Goals as goal
 
@@ -7,8 +10,8 @@ loop-init c =
 
 pub look-requires : goal.look-requires
 look-requires c =
-    c.loop.invariant.state c.requires
+    rw c.take.ensures (c.loop.invariant.state c.requires)
 
 pub loop-preserved : goal.loop-preserved
 loop-preserved c =
-    holds_more _ _ _ _ c.loop.invariant c.look.ensures
+    holds_more _ _ _ _ c.loop.invariant (subst (λ (s : StateParts). Holds c.args.known.now s c.look.new.state) c.take.ensures c.look.ensures)

@@ -13,3 +13,7 @@ loop-method-init c =
 pub loop-method-preserved : goal.loop-method-preserved
 loop-method-preserved c =
     turn_more _ _ _ _ _ _ _ _ c.loop-method.invariant c.visit_method-changed.ensures
+
+pub returns : goal.returns
+returns c =
+    turn_end _ _ _ _ _ _ _ (omega (arith, c.loop-method-test.false, c.method_count-method-end.ensures)) c.loop-method.invariant

@@ -9,7 +9,7 @@ loop-i-init c =
 
 pub loop-i-preserved : goal.loop-i-preserved
 loop-i-preserved c =
-    part_more _ c.args.callees.now c.loop-i.i c.loop-i.gone _ (get_or c.args.callees.now c.loop-i.i (record { 0 = 0 })) (slice_get-get_or c.args.callees.now c.loop-i.i (record { 0 = 0 }) c.loop-i-test.true) c.mask.ensures c.loop-i.invariant
+    part_more _ c.args.callees.now c.loop-i.i c.loop-i.gone _ (get_or c.args.callees.now c.loop-i.i (record { 0 = 0 })) (slice_get-get_or c.args.callees.now c.loop-i.i (record { 0 = 0 }) c.loop-i-test.true) c.mask-gone.ensures c.loop-i.invariant
 
 pub returns : goal.returns
 returns c =

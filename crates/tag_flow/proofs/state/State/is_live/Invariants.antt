@@ -5,4 +5,4 @@ use Rattle.tag_flow.specs.State.{row_of}
 use Rattle.tag_flow.proofs.state.State.is_live.Given as goal
 
 abbrev pub invariant-loop-register : goal.invariant-loop-register
-invariant-loop-register l = (r : ℕ) → r < l.register → tag_in (row_of l.self l.spot) r ≡ Bot
+invariant-loop-register l = (r : ℕ) → r < l.register → tag_in (row_of l.self l.fn.spot) r ≡ Bot
