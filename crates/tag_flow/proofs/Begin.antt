@@ -3,8 +3,10 @@ use Rattle.std.proofs.Common.{◌≡◌, ℕ, suc, zero, ◌+◌, ◌*◌, ◌<�
 use Rattle.std.specs.Prelude.{slice_get}
 use Rattle.std.specs.List.{All}
 use Rattle.std.proofs.lemmas.Bool.{cases_Bool, cases_eq, cases_lt}
-use Rattle.std.proofs.lemmas.List.{get_or-map, get_or_default, get_or_past, get_or-replicate, get_or_append_left, get_or_push, length-map, length-replicate, length_push}
+use Rattle.std.proofs.lemmas.List.{get_or-map, get_or_default, get_or_past, get_or-replicate, get_or_append_left, get_or_push, length-map, length-replicate, length_push, map-append}
 use Rattle.std.proofs.lemmas.Option.{get_or_from_slice_get, slice_get_cases, slice_get_within}
+use Rattle.std.specs.declared.alloc.Global.{Global}
+use Rattle.std.specs.declared.vec.Vec.{Vec}
 use Rattle.ns_base.specs.declared.rows.LockNo.{LockNo}
 use Rattle.app_model.specs.Parts.{AppParts}
 use Rattle.app_model.specs.TagTable.{FitsReached, IsTagTable, TagParts, cell_at, cell_count, cells_below, cells_of, tag_at, tag_of, width_at, width_of}
@@ -34,6 +36,12 @@ rows_more k n rows cells are is = record {
       (λ le. (let at : m ≡ n = omega (arith, le, lt) in rw at (get_or_push rows cells [] n are.len ∙ is)))
       (cases_lt m n);
 }
+
+abbrev row_items : Vec ℕ Global → List ℕ
+row_items v = v.items
+
+pub rows_push : (k : KnownParts) (n : ℕ) (rows : List (Vec ℕ Global)) (v : Vec ℕ Global) → AreRows k n (map row_items rows) → v.items ≡ replicate (cells_of k.app (is_reached k) n) 0 → AreRows k (n + 1) (map row_items (rows ++ v ∷ []))
+rows_push k n rows v are is = rw (map-append row_items rows (v ∷ [])) (rows_more k n (map row_items rows) v.items are is)
 
 zero_in : (n place : ℕ) → ◌≡◌ {A = ℕ} (get_or (replicate n 0) place 0) 0
 zero_in n place = ⊎_elim (λ lt. get_or-replicate n place 0 0 lt) (λ past. get_or_past (replicate n 0) place 0 (omega (arith, past, length-replicate {A = ℕ} n 0))) (cases_lt place n)
@@ -125,3 +133,6 @@ total_rises app reached m (suc n) le = ⊎_elim
     (λ at. rw at (omega arith))
     (λ ne. (let before = total_rises app reached m n (omega (arith, le, ne)) in omega (arith, before)))
     (cases_eq m (suc n))
+
+pub total_more : (app : AppParts) (reached : ℕ → Bool) (m : ℕ) → cells_below app reached (m + 1) ≡ cells_below app reached m + cells_of app reached m
+total_more app reached m = let e : m + 1 ≡ suc m = omega arith in rw e refl

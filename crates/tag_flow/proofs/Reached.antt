@@ -1,12 +1,12 @@
 -- Entries of callbacks, what calls reach from them, and to which lock fields that stores.
-use Rattle.std.proofs.Common.{◌≡◌, ℕ, suc, zero, ◌<◌, ◌≤◌, ◌++◌, List, [], ◌∷◌, length, Bool, true, false, Option, Some, None, refl, sym, ap, ◌∙◌, subst, inl, inr, ⊎_elim, arith, Contains, get_or, lt-ltb, eq-eqb, eqb-true}
+use Rattle.std.proofs.Common.{◌≡◌, ℕ, suc, zero, ◌<◌, ◌≤◌, ◌++◌, List, [], ◌∷◌, length, Bool, true, false, Option, Some, None, refl, sym, ap, ◌∙◌, subst, inl, inr, ⊎_elim, arith, Contains, get_or, take, ◌+◌, lt-ltb, eq-eqb, eqb-true}
 use Rattle.std.specs.Prelude.{◌⊎◌, ◌↔◌, slice_get, flat_map, ◌==◌}
 use Rattle.std.specs.Int.{bit_at}
 use Rattle.std.specs.List.{All}
 use Rattle.std.proofs.lemmas.Bool.{and_from, and_parts, cases_lt, false≢true, ltb-true}
-use Rattle.std.proofs.lemmas.List.{get_or_past}
+use Rattle.std.proofs.lemmas.List.{append_assoc, flat_map_more, get_or_past, take_more}
 use Rattle.std.proofs.lemmas.List.Concat.{flat_map-cons}
-use Rattle.std.proofs.lemmas.List.Elements.{All-contains, Contains-append_cases, Contains-append_left, Contains-append_right, Contains-get_or}
+use Rattle.std.proofs.lemmas.List.Elements.{All-contains, filter_map-append, Contains-append_cases, Contains-append_left, Contains-append_right, Contains-get_or}
 use Rattle.std.proofs.lemmas.List.Quantifiers.{position-Some}
 use Rattle.std.proofs.lemmas.Nat.Bits.{bit_at-zero}
 use Rattle.std.proofs.lemmas.Option.{get_or_from_slice_get, slice_get_within}
@@ -70,6 +70,15 @@ entry_callback list n has = go list has
         (λ here. let at = entry_from p.methods n here in (0, at.0, at.1))
         (λ later. let at = go ps later in (suc at.0, at.1, at.2))
         (Contains-append_cases (own_entries p) (flat_map own_entries ps) n (subst (λ (xs : List MethodNo). Contains xs n) (flat_map-cons own_entries p ps) h))
+
+-- as they are found, one after another
+pub chosen_more : (before : List MethodNo) (methods : List (Option MethodNo)) (i : ℕ) (d : Option MethodNo) → i < length methods → (before ++ chosen (take i methods)) ++ chosen (get_or methods i d ∷ []) ≡ before ++ chosen (take (i + 1) methods)
+chosen_more before methods i d lt =
+    append_assoc before (chosen (take i methods)) (chosen (get_or methods i d ∷ []))
+    ∙ ap (λ (rest : List MethodNo). before ++ rest) (sym (ap chosen (take_more methods i d lt) ∙ filter_map-append (λ (m : Option MethodNo). m) (take i methods) (get_or methods i d ∷ [])))
+
+pub entries_more : (list : List ComponentParts) (i : ℕ) (d : ComponentParts) → i < length list → flat_map own_entries (take i list) ++ own_entries (get_or list i d) ≡ flat_map own_entries (take (i + 1) list)
+entries_more list i d lt = flat_map_more own_entries [] (take i list) (get_or list i d) ∙ sym (ap (flat_map own_entries) (take_more list i d lt))
 
 -- ---- they are methods of the application
 found_below : (app : AppParts) (t name proto n : ℕ) → lookup_of app t name proto ≡ Some n → n < length app.methods

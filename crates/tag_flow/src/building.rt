@@ -89,6 +89,7 @@ fn begin(alloc: Global, known: &Known) -> Result<State, AllocError>
     ensures state { IfOk result (IsState known.now) }
     ensures below { IfOk result (IsBelow known.now) }
 {
+    known.told();
     let table = make_table(alloc, known)?;
     let answers = make_answers(alloc, known.method_count())?;
     let agenda = Agenda::new(alloc, known)?;
@@ -99,6 +100,7 @@ fn begin(alloc: Global, known: &Known) -> Result<State, AllocError>
 fn find_table(alloc: Global, known: &Known) -> Result<TagTable, AllocError>
     ensures { IfOk result (IsTagTableOf known.now.app known.now.graph known.now.list) }
 {
+    known.told();
     let mut state = begin(alloc, known)?;
     close(known, &mut state);
     Ok(state.into_table())

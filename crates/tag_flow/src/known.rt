@@ -1,5 +1,5 @@
 //! What is known of an application before its tags are.
-ghost use Rattle.std.specs.Prelude.{◌≡◌, ◌<◌, ◌≤◌, ◌^◌, ◌++◌, ◌+◌, IfOk, length, Some, slice_get, slice_index, true};
+ghost use Rattle.std.specs.Prelude.{◌≡◌, ◌<◌, ◌≤◌, ◌^◌, ◌++◌, ◌+◌, ◌∷◌, [], IfOk, length, Some, slice_get, slice_index, true};
 ghost use Rattle.app_model.specs.CallGraph.{callees_at, outside_at};
 ghost use Rattle.app_model.specs.Components.{BelongsTo, entries_of};
 ghost use Rattle.app_model.specs.Sites.{sites_below};
@@ -59,6 +59,15 @@ fn makes_lock(act: &Act) -> bool
     }
 }
 
+fn add_entry(entry: Option<MethodNo>, entries: &mut Vec<MethodNo>) -> Result<(), AllocError>
+    ensures { IfOk result (λ done. entries.new.items ≡ entries.old.items ++ chosen (entry ∷ [])) }
+{
+    if let Some(method) = entry {
+        entries.push(method)?;
+    }
+    Ok(())
+}
+
 // The methods of a component's callbacks.
 fn add_entries(
     methods: &[Option<MethodNo>],
@@ -67,9 +76,7 @@ fn add_entries(
     ensures { IfOk result (λ done. entries.new.items ≡ entries.old.items ++ chosen methods.now) }
 {
     for i in 0..methods.len() {
-        if let Some(method) = methods[i] {
-            entries.push(method)?;
-        }
+        add_entry(methods[i], entries)?;
     }
     Ok(())
 }

@@ -4,8 +4,8 @@ use Rattle.tag_flow.proofs.entering.arg_at.Goals as goal
 
 pub returns-then-k-count-2 : goal.returns-then-k-count-2
 returns-then-k-count-2 c =
-    range_some _ _ _ c.if-k-count-2.true
+    rw c.in-Range.is (range_some _ _ _ c.if-k-count-2.true)
 
 pub returns-else-k-count-2 : goal.returns-else-k-count-2
 returns-else-k-count-2 c =
-    range_none _ _ _ (omega (arith, c.if-k-count-2.false))
+    rw c.in-Range.is (range_none c.in-Range.first c.in-Range.count c.args.k (omega (arith, c.if-k-count-2.false)))
