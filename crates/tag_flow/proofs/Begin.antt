@@ -8,14 +8,20 @@ use Rattle.std.proofs.lemmas.Option.{get_or_from_slice_get, slice_get_cases, sli
 use Rattle.std.specs.declared.alloc.Global.{Global}
 use Rattle.std.specs.declared.vec.Vec.{Vec}
 use Rattle.ns_base.specs.declared.rows.LockNo.{LockNo}
+use Rattle.ns_base.specs.Answers.{limit_of}
+use Rattle.ns_base.specs.declared.answers.Counted.TheVariants.{TagCells}
+use Rattle.app_model.specs.CallGraph.{GraphParts}
+use Rattle.app_model.specs.Components.{ComponentParts}
 use Rattle.app_model.specs.Parts.{AppParts}
-use Rattle.app_model.specs.TagTable.{FitsReached, IsTagTable, TagParts, cell_at, cell_count, cells_below, cells_of, tag_at, tag_of, width_at, width_of}
+use Rattle.app_model.specs.TagTable.{FitsReached, IsTagTable, TagParts, cell_at, cell_count, cell_total, cells_below, cells_of, tag_at, tag_of, width_at, width_of}
 use Rattle.app_model.specs.Words.{code_len}
 use Rattle.app_model.specs.declared.rows.MethodRow.{MethodRow}
 use Rattle.app_model.specs.declared.tag.Tag.{Tag}
 use Rattle.app_model.specs.declared.tag.Tag.TheVariants.{Bot, Held, Field}
 use Rattle.act_model.specs.Tags.{bot_all}
 use Rattle.flow_model.specs.TagFlow.{IsTagTableOf}
+use Rattle.tag_flow.specs.Answers.{HasFew, IsCause}
+use Rattle.tag_flow.specs.declared.fault.TagFault.TheVariants.{Limit}
 use Rattle.tag_flow.specs.Cells.{IsTagOf, tag_there}
 use Rattle.tag_flow.specs.Known.{IsClosed, IsKnown, KnownParts, is_gone, is_reached, registers_of, row_width}
 use Rattle.tag_flow.specs.State.{AreRows, IsEmpty, IsState, StateParts, answer_of}
@@ -136,3 +142,10 @@ total_rises app reached m (suc n) le = ⊎_elim
 
 pub total_more : (app : AppParts) (reached : ℕ → Bool) (m : ℕ) → cells_below app reached (m + 1) ≡ cells_below app reached m + cells_of app reached m
 total_more app reached m = let e : m + 1 ≡ suc m = omega arith in rw e refl
+
+-- ---- what is told of the count
+pub few_of : (k : KnownParts) (app : AppParts) (graph : GraphParts) (list : List ComponentParts) → IsKnown k → k.app ≡ app → k.graph ≡ graph → k.list ≡ list → cell_total k.app (is_reached k) ≤ limit_of TagCells → HasFew app graph list
+few_of k app graph list known a g l few = rw (← a, ← g, ← l) (cell_total k.app (is_reached k), record { reached = is_reached k; reaches = known.reaches; count = refl }, few)
+
+pub cause_of : (k : KnownParts) (app : AppParts) (graph : GraphParts) (list : List ComponentParts) → IsKnown k → k.app ≡ app → k.graph ≡ graph → k.list ≡ list → (cell_total k.app (is_reached k) ≤ limit_of TagCells → ⊥) → IsCause app graph list (Limit TagCells)
+cause_of k app graph list known a g l many = rw (← a, ← g, ← l) (refl, (cell_total k.app (is_reached k), record { reached = is_reached k; reaches = known.reaches; count = refl }, ⊎_elim (λ lt. lt) (λ le. absurd (many le)) (cases_lt (limit_of TagCells) (cell_total k.app (is_reached k)))))

@@ -47,7 +47,7 @@ went_on k m i a site old new x is = turn_as k (AllSucceeded k m i (After site a)
 
 -- ---- calls and returns by what they hand on
 pub no_handing : (a : Act) → None ≡ handing_of a → (how : By) (usage : LockUse) (arguments : Args) (gives : Gives) → a ≡ Call how usage arguments gives → ⊥
-no_handing a none how usage arguments gives is = (let both : None ≡ Some (record { by = how; args = arguments }) = none ∙ ap handing_of is in cc)
+no_handing a none how usage arguments gives is = (let both : ◌≡◌ {A = Option Handing} None (Some (record { by = how; args = arguments })) = none ∙ ap handing_of is in cc)
 
 pub handing_call : (a : Act) (handing : Handing) → Some handing ≡ handing_of a → (usage : LockUse) × (gives : Gives) × (a ≡ Call handing.by usage handing.args gives)
 handing_call (Call how usage arguments gives) handing e =

@@ -18,13 +18,16 @@ use Rattle.app_model.specs.Hierarchy.{line_of, lookup_of, method_in as declared_
 use Rattle.app_model.specs.Masks.{in_lock_mask}
 use Rattle.app_model.specs.Parts.{AppParts, ClassParts}
 use Rattle.app_model.specs.Reach.{Assigns, IsReached, given, called, StoresAt, is_object_store}
+use Rattle.app_model.specs.Sites.{sites_below}
 use Rattle.app_model.specs.Sound.{IsSoundApp}
+use Rattle.app_model.specs.Targets.{IsCallGraph}
 use Rattle.app_model.specs.Words.{code_len, ins_of, place_at, places_of}
 use Rattle.call_reach.specs.Starts.{AreAssigned, AreReached}
 use Rattle.call_reach.proofs.Adding.{callee_within, user_within}
 use Rattle.call_reach.proofs.Reached.{set_by_callee}
 use Rattle.flow_model.specs.TagFlow.{TellsReached, TellsStores}
-use Rattle.tag_flow.specs.Known.{IsKnown, KnownParts, chosen, is_reached}
+use Rattle.tag_flow.specs.Known.{AreSites, IsKnown, KnownParts, chosen, is_reached}
+use Rattle.tag_flow.specs.declared.sites.Site.{Site}
 use Rattle.tag_flow.proofs.Acts.{method_within, nearest_below, slot_below}
 
 abbrev method_no : ℕ → MethodNo
@@ -169,3 +172,21 @@ callee_reached k known m i n on among = (known.reaches n.0).1 (called i n ((know
 
 pub entry_reached : (k : KnownParts) → IsKnown k → (n : MethodNo) → Contains (entries_of k.list) n → is_reached k n.0 ≡ true
 entry_reached k known n among = (known.reaches n.0).1 (given n among)
+
+pub entries_are_below : (app : AppParts) (list : List ComponentParts) (entries : List MethodNo) → BelongsTo app list → entries ≡ entries_of list → All (λ (m : MethodNo). m.0 < length app.methods) entries
+entries_are_below app list entries belongs is = subst (λ (ns : List MethodNo). All (λ (m : MethodNo). m.0 < length app.methods) ns) (sym is) (entries_below app list belongs)
+
+-- what was found is what is to be known
+pub known_is : (app : AppParts) (graph : GraphParts) (list : List ComponentParts) (entries : List MethodNo) (marks : List Bool) (masks : List ℕ) (sites : List Site) → IsSoundApp app → IsCallGraph app graph → BelongsTo app list
+    → entries ≡ entries_of list → AreReached app graph entries marks → AreAssigned app graph masks → AreSites app sites → length sites ≡ sites_below app (length app.methods) → sites_below app (length app.methods) ≤ 64
+    → IsKnown (record { app = app; graph = graph; list = list; entries = entries; reached = marks; masks = masks; sites = sites })
+known_is app graph list entries marks masks sites sound is_graph belongs is reached assigned are len few = record {
+  app = sound;
+  graph = is_graph;
+  list = belongs;
+  entries = is;
+  reaches = tells_reached app graph list marks is_graph.fits belongs (subst (λ (ns : List MethodNo). AreReached app graph ns marks) is reached);
+  stores = tells_stores app graph masks sound is_graph.fits assigned;
+  sites = are;
+  few_sites = omega (arith, len, few);
+}

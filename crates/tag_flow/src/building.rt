@@ -93,7 +93,8 @@ fn begin(alloc: Global, known: &Known) -> Result<State, AllocError>
     let table = make_table(alloc, known)?;
     let answers = make_answers(alloc, known.method_count())?;
     let agenda = Agenda::new(alloc, known)?;
-    Ok(State::new(table, answers, agenda))
+    let state = State::new(table, answers, agenda);
+    Ok(state)
 }
 
 // The table of what is known.
@@ -125,6 +126,7 @@ pub fn tags(
     let Ok(known) = Known::find(alloc, app, graph, list) else {
         return Err(TagFault::Memory);
     };
+    known.told();
     if !is_small(&known) {
         return Err(TagFault::Limit(Counted::TagCells));
     }

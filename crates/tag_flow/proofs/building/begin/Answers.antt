@@ -5,10 +5,10 @@ use Rattle.tag_flow.proofs.building.begin.Goals as goal
 
 pub returns-clause-state : goal.returns-clause-state
 returns-clause-state c =
-    let answers = c.new.ensures.answers ∙ c.in_ok-answers.ensures ∙ ap (λ n. let t : TagParts = record { registers = 0 ∷ []; cells = replicate n 0 ∷ [] } in t) c.method_count.ensures in
-    state_first _ c.told.ensures _ (rw c.new.ensures.table c.in_ok-table.ensures) answers
+    let answers = c.new-state.ensures.answers ∙ c.in_ok-answers.ensures ∙ ap (λ n. let t : TagParts = record { registers = 0 ∷ []; cells = replicate n 0 ∷ [] } in t) c.method_count.ensures in
+    state_first _ c.told.ensures _ (rw c.new-state.ensures.table c.in_ok-table.ensures) answers
 
 pub returns-clause-below : goal.returns-clause-below
 returns-clause-below c =
-    let answers = c.new.ensures.answers ∙ c.in_ok-answers.ensures ∙ ap (λ n. let t : TagParts = record { registers = 0 ∷ []; cells = replicate n 0 ∷ [] } in t) c.method_count.ensures in
-    below_first _ c.told.ensures _ (rw c.new.ensures.table c.in_ok-table.ensures) answers
+    let answers = c.new-state.ensures.answers ∙ c.in_ok-answers.ensures ∙ ap (λ n. let t : TagParts = record { registers = 0 ∷ []; cells = replicate n 0 ∷ [] } in t) c.method_count.ensures in
+    below_first _ c.told.ensures _ (rw c.new-state.ensures.table c.in_ok-table.ensures) answers
