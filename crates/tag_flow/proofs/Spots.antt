@@ -1,0 +1,54 @@
+-- What holds at an instruction of a method that is reached.
+use Rattle.std.proofs.Common.{◌≡◌, ℕ, ◌+◌, ◌*◌, ◌<◌, ◌≤◌, Bool, true, List, length, get_or, if◌then◌else◌, [], Some, sym, ap, ◌∙◌, subst, ⊎_elim, arith, Contains}
+use Rattle.std.specs.Prelude.{slice_get}
+use Rattle.std.proofs.lemmas.Bool.{cases_lt}
+use Rattle.std.proofs.lemmas.List.{get_or-map}
+use Rattle.std.proofs.lemmas.Option.{get_or_from_slice_get, slice_get_within}
+use Rattle.ns_base.specs.declared.rows.MethodNo.{MethodNo}
+use Rattle.app_model.specs.TagTable.{TagParts, cell_at, row_at, tag_at, tag_of, width_at}
+use Rattle.app_model.specs.Words.{code_len}
+use Rattle.app_model.specs.declared.rows.MethodRow.{MethodRow}
+use Rattle.app_model.specs.declared.tag.Tag.{Tag}
+use Rattle.app_model.specs.declared.tag.Tag.TheVariants.{Bot}
+use Rattle.app_model.proofs.Cells.{length-row_at, tag_past, tag_within}
+use Rattle.act_model.specs.Changes.{tag_in}
+use Rattle.flow_model.specs.TagFlow.{IsLive}
+use Rattle.tag_flow.specs.declared.known.Spot.{Spot}
+use Rattle.tag_flow.specs.Cells.{cells_len}
+use Rattle.tag_flow.specs.Known.{IsKnown, KnownParts, is_reached, registers_of, row_width}
+use Rattle.tag_flow.specs.State.{IsSpot, IsState, StateParts, row_of}
+
+-- the width of a row of the table
+pub table_width : (k : KnownParts) (s : StateParts) (m : ℕ) → IsState k s → width_at s.table m ≡ row_width k.app m
+table_width k s m state = ap (λ (rs : List ℕ). get_or rs m 0 + 1) state.registers
+
+pub row_len : (k : KnownParts) (s : StateParts) (spot : Spot) → IsState k s → IsSpot k spot → length (row_of s spot) ≡ spot.width
+row_len k s spot state is = length-row_at s.table spot.method.0 spot.index ∙ table_width k s spot.method.0 state ∙ sym is.width
+
+-- how many cells the method has
+pub cells_there : (k : KnownParts) (s : StateParts) (spot : Spot) → IsState k s → IsSpot k spot → cells_len s.table spot.method.0 ≡ code_len k.app spot.method.0 * spot.width
+cells_there k s spot state is =
+    state.rows spot.method.0 ∙ ap (λ (b : Bool). if b then code_len k.app spot.method.0 * row_width k.app spot.method.0 else 0) is.reached ∙ ap (λ w. code_len k.app spot.method.0 * w) (sym is.width)
+
+pub not_live : (k : KnownParts) (s : StateParts) (spot : Spot) (n : ℕ) → IsState k s → IsSpot k spot → spot.width ≤ n → ((r : ℕ) → r < n → tag_in (row_of s spot) r ≡ Bot) → IsLive (row_of s spot) → ⊥
+not_live k s spot n state is past none live = live.is (⊎_elim
+    (λ lt. none live.register lt)
+    (λ le. tag_past s.table spot.method.0 spot.index live.register (let w = table_width k s spot.method.0 state in let v = is.width in omega (arith, le, past, w, v)))
+    (cases_lt live.register n))
+
+-- cells that are the same have the same tag
+pub same_tags : (k : KnownParts) (s : StateParts) (from to : Spot) (r : ℕ) → IsState k s → IsSpot k from → r < from.width → to.width ≡ from.width
+    → cell_at s.table from.method.0 (from.index * from.width + r) ≡ cell_at s.table from.method.0 (to.index * to.width + r)
+    → tag_at s.table from.method.0 from.index r ≡ tag_at s.table from.method.0 to.index r
+same_tags k s from to r state is lt width same =
+    let w : width_at s.table from.method.0 ≡ from.width = table_width k s from.method.0 state ∙ sym is.width in
+    let inside : r < width_at s.table from.method.0 = omega (arith, lt, w) in
+    tag_within s.table from.method.0 from.index r inside
+    ∙ ap (λ n. tag_of (cell_at s.table from.method.0 (from.index * n + r))) w
+    ∙ ap tag_of (same ∙ ap (λ n. cell_at s.table from.method.0 (to.index * n + r)) (width ∙ sym w))
+    ∙ sym (tag_within s.table from.method.0 to.index r inside)
+
+-- the row at the entry of a method has its registers
+pub method_fits : (k : KnownParts) (known : IsKnown k) (m : ℕ) (method : MethodRow) → slice_get k.app.methods m ≡ Some method → (method.ins ≤ method.registers) × (row_width k.app m ≡ method.registers + 1)
+method_fits k known m method at = ((known.app.methods m method at).fits,
+    ap (λ n. n + 1) (get_or-map (λ (one : MethodRow). one.registers) k.app.methods m method 0 (slice_get_within k.app.methods m method at) ∙ ap (λ (one : MethodRow). one.registers) (get_or_from_slice_get k.app.methods m method method at)))

@@ -1,0 +1,212 @@
+//! What flows into callees, past calls, and back.
+ghost use Rattle.std.specs.Prelude.{ℕ, ◌≡◌, ◌<◌, Some, Contains, length, slice_get, true};
+ghost use Rattle.app_model.specs.CallGraph.{callees_at};
+ghost use Rattle.app_model.specs.Words.{code_len, successor_at};
+ghost use Rattle.act_model.specs.Acts.{act_at};
+ghost use Rattle.act_model.specs.Changes.{tag_in};
+ghost use Rattle.flow_model.specs.TagFlow as flow;
+ghost use Rattle.tag_flow.specs.State.{IsSource, IsSpot, row_of};
+ghost use Rattle.tag_flow.specs.Turns.{Enters, IsUnion, Turn, handing_of, returned_of};
+ghost use Rattle.tag_flow.specs.Goals.{AnswerAt, Below, CallPassed, CalleeDone, CalleeNoDone, CameBack, Called, CellUnder, Entered, GaveBack, RowPassed, entering_row};
+
+use crate::change::Change;
+use crate::entering::{called_tag, entering};
+use crate::known::{Known, Spot};
+use crate::passing::{to_handlers, to_successors};
+use crate::state::State;
+use act_model::{Act, Returned, Row};
+use app_model::{By, Tag};
+use dalvik::Args;
+use ns_base::MethodNo;
+
+/// How a call hands its arguments on.
+#[derive(Clone, Copy)]
+pub(crate) struct Handing {
+    pub by: By,
+    pub args: Args,
+}
+
+fn handing_of(act: &Act) -> Option<Handing>
+    ensures { result ≡ handing_of act.now }
+{
+    match *act {
+        Act::Call { by, args, .. } => Some(Handing { by, args }),
+        _ => None,
+    }
+}
+
+// ---- into a callee
+
+fn enter_cell(
+    known: &Known,
+    state: &mut State,
+    from: Spot,
+    handing: Handing,
+    to: Spot,
+    register: usize,
+) -> bool
+    requires source { IsSource known.now state.old from }
+    requires enters { Enters known.now from handing to }
+    requires register { register < to.width }
+    ensures { Turn known.now (CellUnder known.now to.method.0 0 (entering_row known.now from.method.0 from.index to.method.0 handing.by handing.args) register) state.old state.new result }
+{
+    known.told();
+    let method = known.method(to.method);
+    let tag = called_tag(&state.row(from), handing.by, &handing.args, method, register);
+    state.join(known, to, register, tag)
+}
+
+fn enter_row(known: &Known, state: &mut State, from: Spot, handing: Handing, to: Spot) -> bool
+    requires source { IsSource known.now state.old from }
+    requires enters { Enters known.now from handing to }
+    ensures { Turn known.now (RowPassed known.now to.method.0 0 (entering_row known.now from.method.0 from.index to.method.0 handing.by handing.args)) state.old state.new result }
+{
+    let mut changed = false;
+    for register in 0..to.width {
+        changed |= enter_cell(known, state, from, handing, to, register);
+    }
+    changed
+}
+
+fn enter(known: &Known, state: &mut State, from: Spot, act: Act, callee: MethodNo) -> bool
+    requires source { IsSource known.now state.old from }
+    requires act { act_at known.now.app from.method.0 from.index ≡ Some act }
+    requires callee { Contains (callees_at known.now.graph from.method.0 from.index) callee }
+    ensures { Turn known.now (Entered known.now from.method.0 from.index act callee) state.old state.new result }
+{
+    known.told();
+    let Some(handing) = handing_of(&act) else {
+        return false;
+    };
+    if known.code_len(callee) == 0 {
+        return false;
+    }
+    let to = known.spot(callee, 0);
+    enter_row(known, state, from, handing, to)
+}
+
+// ---- back from a callee
+
+// What the returns of a callee gave, into the result cell of a successor.
+fn come_back_to(known: &Known, state: &mut State, from: Spot, to: u32, callee: MethodNo) -> bool
+    requires source { IsSource known.now state.old from }
+    requires to { (x : ℕ) × (successor_at known.now.app from.method.0 from.index x ≡ Some to) }
+    requires callee { Contains (callees_at known.now.graph from.method.0 from.index) callee }
+    ensures { Turn known.now (AnswerAt known.now from.method.0 to callee) state.old state.new result }
+{
+    known.told();
+    let to = known.spot(from.method, to);
+    let tag = state.answer(known, callee);
+    state.join(known, to, to.width - 1, tag)
+}
+
+fn come_back(known: &Known, state: &mut State, from: Spot, callee: MethodNo) -> bool
+    requires source { IsSource known.now state.old from }
+    requires callee { Contains (callees_at known.now.graph from.method.0 from.index) callee }
+    ensures { Turn known.now (CameBack known.now from.method.0 from.index callee) state.old state.new result }
+{
+    known.told();
+    let mut changed = false;
+    for number in 0..u32::MAX {
+        let Some(to) = known.successor(from, number) else {
+            return changed;
+        };
+        changed |= come_back_to(known, state, from, to, callee);
+    }
+    changed
+}
+
+// ---- a call
+
+fn call_one(known: &Known, state: &mut State, from: Spot, act: Act, callee: MethodNo) -> bool
+    requires source { IsSource known.now state.old from }
+    requires act { act_at known.now.app from.method.0 from.index ≡ Some act }
+    requires callee { Contains (callees_at known.now.graph from.method.0 from.index) callee }
+    ensures { Turn known.now (CalleeDone known.now from.method.0 from.index act callee) state.old state.new result }
+{
+    let entered = enter(known, state, from, act, callee);
+    let back = come_back(known, state, from, callee);
+    entered | back
+}
+
+fn call_all(
+    known: &Known,
+    state: &mut State,
+    from: Spot,
+    act: Act,
+    callees: &[MethodNo],
+) -> bool
+    requires source { IsSource known.now state.old from }
+    requires act { act_at known.now.app from.method.0 from.index ≡ Some act }
+    requires callees { callees.now ≡ callees_at known.now.graph from.method.0 from.index }
+    ensures { Turn known.now (Below (CalleeNoDone known.now from.method.0 from.index act) (length (callees_at known.now.graph from.method.0 from.index))) state.old state.new result }
+{
+    let mut changed = false;
+    for i in 0..callees.len() {
+        changed |= call_one(known, state, from, act, callees[i]);
+    }
+    changed
+}
+
+// Past a call of some callee, and where it throws.
+fn pass_call(known: &Known, state: &mut State, from: Spot, gone: u64) -> bool
+    requires source { IsSource known.now state.old from }
+    requires gone { IsUnion known.now from.method.0 from.index gone }
+    ensures { Turn known.now (CallPassed known.now from.method.0 from.index gone) state.old state.new result }
+{
+    let past = to_successors(known, state, from, Change::Past { gone });
+    let out = to_handlers(known, state, from, Change::Out { gone });
+    past | out
+}
+
+/// All that flows by the callees of an instruction.
+pub(crate) fn call(known: &Known, state: &mut State, from: Spot, act: Act) -> bool
+    requires source { IsSource known.now state.old from }
+    requires act { act_at known.now.app from.method.0 from.index ≡ Some act }
+    ensures { Turn known.now (Called known.now from.method.0 from.index act) state.old state.new result }
+{
+    let callees = known.callees(from);
+    let count = callees.len();
+    if count == 0 {
+        return false;
+    }
+    let gone = known.gone(from, callees);
+    let passed = pass_call(known, state, from, gone);
+    let called = call_all(known, state, from, act, callees);
+    passed | called
+}
+
+// ---- a return
+
+fn returned_of(act: &Act) -> Option<Returned>
+    ensures { result ≡ returned_of act.now }
+{
+    match *act {
+        Act::Return { returned } => Some(returned),
+        _ => None,
+    }
+}
+
+fn answered<R: Row>(row: &R, returned: Returned) -> Tag
+    ensures { result ≡ flow.answered returned (R.tags row.now) }
+{
+    match returned {
+        Returned::Nothing => Tag::Zero,
+        Returned::Wide => Tag::Any,
+        Returned::Register(register) => entering(row.tag(register as usize)),
+    }
+}
+
+/// What a return gives.
+pub(crate) fn give_back(known: &Known, state: &mut State, from: Spot, act: Act) -> bool
+    requires source { IsSource known.now state.old from }
+    requires act { act_at known.now.app from.method.0 from.index ≡ Some act }
+    ensures { Turn known.now (GaveBack known.now from.method.0 from.index act) state.old state.new result }
+{
+    known.told();
+    let Some(returned) = returned_of(&act) else {
+        return false;
+    };
+    let tag = answered(&state.row(from), returned);
+    state.join_answer(known, from.method, tag)
+}
