@@ -53,8 +53,8 @@ fn push_head(
     Ok(())
 }
 
-// CLASS->NAME.
-fn push_member(text: &mut Vec<u8>, class: &[u8], name: &[u8]) -> Result<(), AllocError>
+/// Adds CLASS->NAME, shown.
+pub fn push_member(text: &mut Vec<u8>, class: &[u8], name: &[u8]) -> Result<(), AllocError>
     ensures { IfOk result (λ _. text.new.items ≡ text.old.items ++ member_text class.now name.now) }
 {
     push_shown(text, class)?;

@@ -18,10 +18,11 @@ mod texts;
 
 pub use code_faults::bad_code;
 pub use dex_faults::bad_dex;
-pub use heads::heads_text;
+pub use heads::{heads_text, push_member};
 pub use limits::over_limit;
 pub use link_faults::bad_link;
 pub use list_faults::bad_list;
+pub use numbers::{push_decimal, push_numbers};
 pub use texts::{accept, cannot_read, not_built, usage};
 
 #[cfg(test)]
