@@ -1,30 +1,27 @@
 -- The table at the start, how many cells it has, and the table at the end.
-use Rattle.std.proofs.Common.{◌≡◌, ℕ, suc, zero, ◌+◌, ◌*◌, ◌<◌, ◌≤◌, List, [], ◌∷◌, ◌++◌, length, get_or, map, replicate, Bool, true, false, if◌then◌else◌, Option, Some, None, refl, sym, ap, ◌∙◌, subst, ⊎_elim, arith}
+use Rattle.std.proofs.Common.{◌≡◌, ℕ, suc, zero, ◌+◌, ◌*◌, ◌<◌, ◌≤◌, List, [], ◌∷◌, ◌++◌, length, get_or, map, replicate, Bool, false, if◌then◌else◌, refl, sym, ap, ◌∙◌, subst, ⊎_elim, arith}
 use Rattle.std.specs.Prelude.{slice_get}
-use Rattle.std.specs.List.{All}
 use Rattle.std.proofs.lemmas.Bool.{cases_Bool, cases_eq, cases_lt}
-use Rattle.std.proofs.lemmas.List.{get_or-map, get_or_default, get_or_past, get_or-replicate, get_or_append_left, get_or_push, length-map, length-replicate, length_push, map-append}
-use Rattle.std.proofs.lemmas.Option.{get_or_from_slice_get, slice_get_cases, slice_get_within}
+use Rattle.std.proofs.lemmas.List.{get_or-map, get_or_default, get_or_past, get_or-replicate, get_or_append_left, get_or_push, length-replicate, length_push, map-append}
+use Rattle.std.proofs.lemmas.Option.{slice_get_cases}
 use Rattle.std.specs.declared.alloc.Global.{Global}
 use Rattle.std.specs.declared.vec.Vec.{Vec}
-use Rattle.ns_base.specs.declared.rows.LockNo.{LockNo}
 use Rattle.ns_base.specs.Answers.{limit_of}
 use Rattle.ns_base.specs.declared.answers.Counted.TheVariants.{TagCells}
 use Rattle.app_model.specs.CallGraph.{GraphParts}
 use Rattle.app_model.specs.Components.{ComponentParts}
 use Rattle.app_model.specs.Parts.{AppParts}
-use Rattle.app_model.specs.TagTable.{FitsReached, IsTagTable, TagParts, cell_at, cell_count, cell_total, cells_below, cells_of, tag_at, tag_of, width_at, width_of}
+use Rattle.app_model.specs.TagTable.{IsTagTable, TagParts, cell_at, cell_total, cells_below, cells_of, tag_of, width_of}
 use Rattle.app_model.specs.Words.{code_len}
 use Rattle.app_model.specs.declared.rows.MethodRow.{MethodRow}
-use Rattle.app_model.specs.declared.tag.Tag.{Tag}
-use Rattle.app_model.specs.declared.tag.Tag.TheVariants.{Bot, Held, Field}
+use Rattle.app_model.specs.declared.tag.Tag.TheVariants.{Bot}
 use Rattle.act_model.specs.Tags.{bot_all}
 use Rattle.flow_model.specs.TagFlow.{IsTagTableOf}
 use Rattle.tag_flow.specs.Answers.{HasFew, IsCause}
 use Rattle.tag_flow.specs.declared.fault.TagFault.TheVariants.{Limit}
 use Rattle.tag_flow.specs.Cells.{IsTagOf, tag_there}
-use Rattle.tag_flow.specs.Known.{IsClosed, IsKnown, KnownParts, is_gone, is_reached, registers_of, row_width}
-use Rattle.tag_flow.specs.State.{AreRows, IsEmpty, IsState, StateParts, answer_of}
+use Rattle.tag_flow.specs.Known.{IsClosed, IsKnown, KnownParts, is_gone, is_reached, row_width}
+use Rattle.tag_flow.specs.State.{AreRows, IsEmpty, IsState, StateParts}
 use Rattle.tag_flow.specs.Turns.{IsBelow}
 use Rattle.tag_flow.proofs.Fits.{rows_fit}
 use Rattle.tag_flow.proofs.Reached.{known_below}

@@ -1,33 +1,28 @@
 -- Each join leaves the table under every closed one.
-use Rattle.std.proofs.Common.{◌≡◌, ◌≢◌, ℕ, List, [], ◌∷◌, ◌+◌, ◌*◌, ◌<◌, ◌≤◌, pred, Bool, true, false, Option, Some, None, length, map, set, get_or, refl, sym, ap, ap₂, ◌∙◌, subst, ⊎_elim, arith, Contains, length-set, if◌then◌else◌}
-use Rattle.std.specs.Prelude.{slice_get}
+use Rattle.std.proofs.Common.{◌≡◌, ℕ, List, ◌+◌, ◌*◌, ◌<◌, pred, Bool, false, Some, length, map, set, get_or, refl, sym, ap, ap₂, ◌∙◌, subst, ⊎_elim, arith, Contains, length-set, if◌then◌else◌}
 use Rattle.std.proofs.lemmas.Bool.{cases_Bool, cases_eq, cases_lt, true≢false}
 use Rattle.std.proofs.lemmas.List.{get_or-set_same, get_or-set_other, get_or_past, length-map}
 use Rattle.ns_base.specs.declared.rows.MethodNo.{MethodNo}
 use Rattle.app_model.specs.CallGraph.{callees_at}
-use Rattle.app_model.specs.Components.{callback_at}
 use Rattle.app_model.specs.Masks.{in_lock_mask}
 use Rattle.app_model.specs.TagTable.{TagParts, row_at, tag_at, width_at}
 use Rattle.app_model.specs.Words.{code_len, successor_at}
-use Rattle.app_model.specs.declared.lock_use.LockUse.{LockUse}
 use Rattle.app_model.specs.declared.tag.Tag.{Tag}
 use Rattle.app_model.specs.declared.tag.Tag.TheVariants.{Bot, Zero, Solid, Held, Any, Field, New, Mixed}
 use Rattle.app_model.proofs.Cells.{length-row_at, tag_within}
 use Rattle.act_model.specs.Acts.{act_at}
-use Rattle.act_model.specs.Changes.{called, called_change, result_cell, tag_in}
+use Rattle.act_model.specs.Changes.{called, called_change, tag_in}
 use Rattle.act_model.specs.Tags.{Under, bot_all}
 use Rattle.act_model.specs.declared.act.Act.{Act}
-use Rattle.act_model.specs.declared.act.Act.TheVariants.{Call, Return}
-use Rattle.act_model.specs.declared.act.Gives.{Gives}
+use Rattle.act_model.specs.declared.act.Act.TheVariants.{Return}
 use Rattle.act_model.specs.declared.act.Returned.{Returned}
-use Rattle.flow_model.specs.TagFlow.{Flow, begins, goes_on, back_from_outside, throws, enters, passes_call, comes_back, throws_out, IsLive, answered, is_call, only_result, without_result}
+use Rattle.flow_model.specs.TagFlow.{begins, goes_on, back_from_outside, throws, enters, passes_call, comes_back, throws_out, IsLive, answered, is_call, only_result, without_result}
 use Rattle.tag_flow.specs.declared.change.Change.{Change}
-use Rattle.tag_flow.specs.declared.change.Change.TheVariants.{After, Thrown, Past, Out}
 use Rattle.tag_flow.specs.declared.known.Spot.{Spot}
 use Rattle.tag_flow.specs.declared.calling.Handing.{Handing}
 use Rattle.tag_flow.specs.declared.passing.Step.{Step}
-use Rattle.tag_flow.specs.Cells.{AreTagsOf, Grows, IsTagOf, Joins, room, tag_there}
-use Rattle.tag_flow.specs.Known.{Flows, IsClosed, IsKnown, KnownParts, is_gone, registers_of, row_width}
+use Rattle.tag_flow.specs.Cells.{Grows, IsTagOf, Joins, room, tag_there}
+use Rattle.tag_flow.specs.Known.{Flows, IsClosed, KnownParts, is_gone, registers_of, row_width}
 use Rattle.tag_flow.specs.State.{IsSource, IsSpot, IsState, StateParts, answer_of, row_of, state_room}
 use Rattle.tag_flow.specs.Turns.{AreAnswersUnder, Begins, Enters, IsBelow, IsStep, IsUnion, Leads, leads_after, leads_thrown, leads_past, leads_out, Turn, changed}
 use Rattle.tag_flow.specs.Goals.{AnswerAt, CellUnder, GaveBack, begun_row, entering_row, row_after}
@@ -59,9 +54,9 @@ union_tag k m i gone union Mixed = (union.some_callee.0, union.some_callee.1, re
 set_tags : (xs ys : List Tag) (c r : ℕ) → length xs ≡ length ys → tag_in xs r ≡ tag_in ys r → tag_in (set xs c Bot) r ≡ tag_in (set ys c Bot) r
 set_tags xs ys c r len same = ⊎_elim
     (λ is. ⊎_elim
-        (λ lt. rw is (get_or-set_same xs c Bot Bot lt ∙ sym (get_or-set_same ys c Bot Bot (omega (arith, lt, len)))))
-        (λ past. get_or_past (set xs c Bot) r Bot (rw length-set (omega (arith, past, is))) ∙ sym (get_or_past (set ys c Bot) r Bot (rw length-set (omega (arith, past, is, len)))))
-        (cases_lt c (length xs)))
+    (λ lt. rw is (get_or-set_same xs c Bot Bot lt ∙ sym (get_or-set_same ys c Bot Bot (omega (arith, lt, len)))))
+    (λ past. get_or_past (set xs c Bot) r Bot (rw length-set (omega (arith, past, is))) ∙ sym (get_or_past (set ys c Bot) r Bot (rw length-set (omega (arith, past, is, len)))))
+    (cases_lt c (length xs)))
     (λ ne. get_or-set_other xs c r Bot Bot ne ∙ same ∙ sym (get_or-set_other ys c r Bot Bot ne))
     (cases_eq r c)
 

@@ -1,7 +1,6 @@
 -- What a write to one cell does to a table.
-use Rattle.std.proofs.Common.{◌≡◌, Bool, ◌≢◌, ℕ, ◌+◌, ◌<◌, ◌≤◌, List, [], true, false, length, get_or, set, refl, sym, ap, ◌∙◌, subst, inl, inr, ⊎_elim, arith, length-set}
+use Rattle.std.proofs.Common.{◌≡◌, Bool, ◌≢◌, ℕ, ◌<◌, ◌≤◌, List, [], true, false, length, get_or, set, refl, sym, ap, ◌∙◌, inl, inr, ⊎_elim, arith, length-set}
 use Rattle.std.specs.Prelude.{◌⊎◌}
-use Rattle.std.specs.List.{sum_by}
 use Rattle.std.proofs.lemmas.Bool.{cases_eq, cases_lt, true≢false, false≢true}
 use Rattle.std.proofs.lemmas.List.{get_or-set_same, get_or-set_other, get_or_past}
 use Rattle.std.proofs.lemmas.List.Sums.{sum_by-set}
@@ -10,8 +9,8 @@ use Rattle.app_model.specs.declared.tag.Tag.{Tag}
 use Rattle.app_model.specs.declared.tag.Tag.TheVariants.{Bot, Zero, Solid, Held, Any, Field, New, Mixed}
 use Rattle.app_model.proofs.Cells.{tag_again}
 use Rattle.act_model.specs.Tags.{Under, itself, bot_all, zero_any, solid_any, held_any, all_mixed, IsJoin}
-use Rattle.tag_flow.specs.Cells.{AreTagsOf, Grows, IsTagOf, Joins, cells_len, height, room, row_room, tag_there}
-use Rattle.tag_flow.proofs.Rows.{grows_same, grows_trans}
+use Rattle.tag_flow.specs.Cells.{Grows, IsTagOf, Joins, cells_len, height, room, row_room, tag_there}
+use Rattle.tag_flow.proofs.Rows.{grows_same}
 
 -- a tag that rises has less to rise
 pub height_falls : {a b : Tag} → Under a b → a ≢ b → height b < height a
@@ -121,9 +120,11 @@ module _ (t : TagParts) (m k : ℕ) (x : Tag) (fits : HasCell x) (in_k : k < cel
     };
     least = λ n j top old here. ⊎_elim (λ same. rw (same.0, same.1, put_same) (join.least _ (rw (same.0, same.1) at old) (here same.0 same.1))) (λ other. rw other old) (put_cases n j);
     len = put_len;
-    tags = λ locks are is. record { each = λ n j. ⊎_elim
-        (λ same. rw (same.0, same.1, put_same) (join_kept (IsTagOf locks) (tag_there t m k) tag x tt tt join (are.each m k) is))
-        (λ other. rw other (are.each n j)) (put_cases n j) };
+    tags = λ locks are is. record {
+      each = λ n j. ⊎_elim
+          (λ same. rw (same.0, same.1, put_same) (join_kept (IsTagOf locks) (tag_there t m k) tag x tt tt join (are.each m k) is))
+          (λ other. rw other (are.each n j)) (put_cases n j);
+    };
     same = λ e. absurd (true≢false e);
     falls = λ e. put_falls (height_falls join.left (λ e. ne (sym e)));
   }

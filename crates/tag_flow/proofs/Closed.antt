@@ -1,5 +1,5 @@
 -- A sweep that changes nothing leaves a closed table.
-use Rattle.std.proofs.Common.{◌≡◌, ◌≢◌, ℕ, suc, zero, List, [], ◌∷◌, ◌++◌, ◌+◌, ◌-◌, ◌*◌, ◌<◌, ◌≤◌, pred, Bool, true, false, cond, if◌then◌else◌, Option, Some, None, length, map, set, replicate, refl, sym, ap, ◌∙◌, subst, ⊎_elim, arith, Contains, get_or, length-set}
+use Rattle.std.proofs.Common.{◌≡◌, ℕ, suc, zero, List, [], ◌∷◌, ◌++◌, ◌+◌, ◌-◌, ◌*◌, ◌<◌, ◌≤◌, pred, Bool, true, false, cond, if◌then◌else◌, Option, Some, None, length, map, set, replicate, refl, sym, ap, ◌∙◌, subst, ⊎_elim, arith, Contains, get_or, length-set}
 use Rattle.std.specs.Prelude.{slice_get}
 use Rattle.std.proofs.lemmas.Bool.{cases_Bool, cases_eq, cases_lt, false≢true}
 use Rattle.std.proofs.lemmas.List.{get_or-map, get_or-set_other, get_or-set_same, get_or_past, length-append, length-map, length-replicate}
@@ -8,28 +8,26 @@ use Rattle.ns_base.specs.declared.rows.LockNo.{LockNo}
 use Rattle.ns_base.specs.declared.rows.MethodNo.{MethodNo}
 use Rattle.app_model.specs.CallGraph.{callees_at}
 use Rattle.app_model.specs.Sites.{site_at}
-use Rattle.app_model.specs.TagTable.{TagParts, cell_at, row_at, tag_at, tag_of, width_at}
+use Rattle.app_model.specs.TagTable.{cell_at, row_at, tag_at, tag_of, width_at}
 use Rattle.app_model.specs.Words.{code_len}
 use Rattle.app_model.specs.declared.rows.MethodRow.{MethodRow}
 use Rattle.app_model.specs.declared.tag.Tag.{Tag}
 use Rattle.app_model.specs.declared.tag.Tag.TheVariants.{Bot, Zero, Solid, Held, Any, Field, New, Mixed}
 use Rattle.app_model.proofs.Cells.{length-row_at, tag_past, tag_within}
 use Rattle.act_model.specs.Acts.{act_at}
-use Rattle.act_model.specs.Changes.{after, after_stored, called, called_change, put, result_cell, stored_change, tag_in, thrown}
+use Rattle.act_model.specs.Changes.{after, after_stored, called, called_change, put, stored_change, tag_in, thrown}
 use Rattle.act_model.specs.Entries.{callback_row, call_words, entry_row, fitted}
 use Rattle.act_model.specs.Tags.{Under, bot_all, itself, all_mixed}
 use Rattle.act_model.specs.declared.act.Act.{Act}
-use Rattle.act_model.specs.declared.act.Act.TheVariants.{Go, Test, Copy, TakeResult, Write, Fill, ReadSlot, WriteSlot, Give, Check, Throw, Return, Call}
+use Rattle.act_model.specs.declared.act.Act.TheVariants.{Copy, TakeResult, Write, Fill, ReadSlot, WriteSlot, Throw, Return, Call}
 use Rattle.app_model.specs.Masks.{in_lock_mask}
 use Rattle.call_reach.proofs.Adding.{use_within}
 use Rattle.call_reach.proofs.Reached.{set_by_callee}
-use Rattle.flow_model.specs.TagFlow.{Flow, begins, goes_on, back_from_outside, throws, enters, passes_call, comes_back, throws_out, IsClosedTable, IsLeastTable, IsLive, answered, callee_row, is_call, leads_on, only_result, without_result}
-use Rattle.tag_flow.specs.Cells.{tag_there}
+use Rattle.flow_model.specs.TagFlow.{begins, goes_on, back_from_outside, throws, enters, passes_call, comes_back, throws_out, IsLeastTable, IsLive, answered, callee_row, is_call, leads_on, only_result, without_result}
 use Rattle.tag_flow.specs.Known.{Flows, IsClosed, IsKnown, KnownParts, is_gone, is_reached, registers_of, row_width}
-use Rattle.tag_flow.specs.State.{IsState, StateParts, answer_of, state_room}
-use Rattle.tag_flow.specs.Turns.{IsBelow, IsUnion, Turn, changed}
-use Rattle.tag_flow.specs.declared.change.Change.TheVariants.{After, Thrown, Past, Out}
-use Rattle.tag_flow.specs.Goals.{AllVisited, IsVisited, RowPassed}
+use Rattle.tag_flow.specs.State.{IsState, StateParts, state_room}
+use Rattle.tag_flow.specs.Turns.{IsBelow, Turn}
+use Rattle.tag_flow.specs.Goals.{AllVisited, IsVisited}
 use Rattle.tag_flow.proofs.Acts.{act_there, act_within, method_within}
 use Rattle.tag_flow.proofs.Monotone.{map_tag}
 use Rattle.tag_flow.proofs.Reached.{callback_entry}

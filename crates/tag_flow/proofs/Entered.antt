@@ -1,5 +1,5 @@
 -- One cell of a row at the start of a method.
-use Rattle.std.proofs.Common.{◌≡◌, ℕ, List, length, Option, Some, sym, ap, ◌∙◌, subst}
+use Rattle.std.proofs.Common.{◌≡◌, ℕ, length, Option, Some, sym, ap, ◌∙◌, subst}
 use Rattle.std.specs.Prelude.{slice_get}
 use Rattle.dalvik.specs.declared.ins.Args.{Args}
 use Rattle.app_model.specs.TagTable.{row_at}

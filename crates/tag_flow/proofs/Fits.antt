@@ -1,6 +1,5 @@
 -- Every tag that flows is one of the application.
-use Rattle.std.proofs.Common.{◌≡◌, ◌-◌, ℕ, suc, zero, ◌<◌, ◌++◌, List, [], ◌∷◌, length, map, set, replicate, drop, Bool, true, false, if◌then◌else◌, eqb, Option, Some, None, refl, sym, ap, ◌∙◌, subst, get_or, ⊎_elim, arith}
-use Rattle.std.specs.Prelude.{slice_get}
+use Rattle.std.proofs.Common.{◌≡◌, ◌-◌, ℕ, suc, zero, ◌<◌, ◌++◌, List, [], ◌∷◌, length, map, set, replicate, drop, Bool, true, false, if◌then◌else◌, eqb, Option, Some, None, refl, sym, ap, ◌∙◌, subst, ⊎_elim, arith}
 use Rattle.std.proofs.lemmas.Bool.{cases_lt}
 use Rattle.std.proofs.lemmas.Option.{slice_get-get_or}
 use Rattle.ns_base.specs.declared.rows.LockNo.{LockNo}
@@ -18,17 +17,17 @@ use Rattle.app_model.specs.declared.tag.Tag.{Tag}
 use Rattle.app_model.specs.declared.tag.Tag.TheVariants.{Bot, Zero, Solid, Held, Any, Field, New, Mixed}
 use Rattle.app_model.proofs.Cells.{tag_past, tag_within}
 use Rattle.act_model.specs.declared.act.Act.{Act}
-use Rattle.act_model.specs.declared.act.Act.TheVariants.{Go, Test, Copy, TakeResult, Write, Fill, ReadSlot, WriteSlot, Give, Check, Throw, Return, Call}
+use Rattle.act_model.specs.declared.act.Act.TheVariants.{Copy, TakeResult, Write, Fill, ReadSlot, WriteSlot, Call}
 use Rattle.act_model.specs.declared.act.Gives.{Gives}
 use Rattle.act_model.specs.declared.act.Gives.TheVariants as gives
 use Rattle.act_model.specs.declared.act.Returned.{Returned}
 use Rattle.act_model.specs.declared.act.Returned.TheVariants as returned
 use Rattle.act_model.specs.declared.act.Written.{Written}
 use Rattle.act_model.specs.declared.act.Written.TheVariants as written
-use Rattle.act_model.specs.Changes.{after, after_stored, call_change, called, called_change, field_after, given_tag, held_change, held_tag, new_after, put, result_cell, result_tag, stored_change, tag_in, thrown, without_held, written_tag}
-use Rattle.act_model.specs.Entries.{call_words, callback_row, callback_words, entering, entering_words, entry_row, fitted}
-use Rattle.flow_model.specs.TagFlow.{answered, callee_row, without_result}
-use Rattle.tag_flow.specs.Cells.{AreTagsOf, IsTagOf, tag_there}
+use Rattle.act_model.specs.Changes.{after, after_stored, call_change, called_change, field_after, given_tag, held_change, held_tag, new_after, put, result_tag, stored_change, tag_in, thrown, written_tag}
+use Rattle.act_model.specs.Entries.{call_words, callback_row, entering, entering_words, entry_row, fitted}
+use Rattle.flow_model.specs.TagFlow.{answered, callee_row}
+use Rattle.tag_flow.specs.Cells.{AreTagsOf, IsTagOf}
 use Rattle.app_model.specs.Masks.{in_lock_mask}
 use Rattle.app_model.specs.Parts.{AppParts}
 use Rattle.act_model.specs.Acts.{act_at}

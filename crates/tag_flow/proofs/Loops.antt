@@ -2,8 +2,7 @@
 use Rattle.std.proofs.Common.{◌≡◌, ℕ, ◌<◌, ◌≤◌, ◌^◌, ◌-◌, List, length, Bool, Option, Some, None, refl, sym, ap, ◌∙◌, subst, arith, get_or, Contains}
 use Rattle.std.specs.Prelude.{slice_get}
 use Rattle.std.proofs.lemmas.Option.{get_or_from_slice_get, slice_get-get_or, slice_get_within}
-use Rattle.ns_base.specs.declared.rows.MethodNo.{MethodNo}
-use Rattle.dalvik.specs.Body.{BodyRows, IsBody, IsSoundPlace}
+use Rattle.dalvik.specs.Body.{IsBody, IsSoundPlace}
 use Rattle.dalvik.specs.declared.body.Place.{Place}
 use Rattle.app_model.specs.Parts.{AppParts}
 use Rattle.app_model.specs.Sound.{IsSoundApp}

@@ -1,8 +1,8 @@
 -- The union of the masks of callees, and what changes keep of a row.
-use Rattle.std.proofs.Common.{◌≡◌, ◌≢◌, ℕ, ◌+◌, ◌<◌, ◌≤◌, pred, List, length, set, map, Bool, true, false, Option, Some, None, refl, sym, ap, ◌∙◌, subst, ⊎_elim, arith, Contains, get_or, bit_or, eq-eqb, eqb-true}
+use Rattle.std.proofs.Common.{◌≡◌, ◌≢◌, ℕ, ◌+◌, ◌<◌, ◌≤◌, pred, List, length, set, Bool, true, false, Some, sym, ap, ◌∙◌, subst, ⊎_elim, arith, Contains, get_or, bit_or, eq-eqb, eqb-true}
 use Rattle.std.specs.Prelude.{slice_get, ◌==◌, nat_lt}
 use Rattle.std.specs.Int.{bit_at}
-use Rattle.std.proofs.lemmas.Bool.{and_from, and_parts, cases_eq, cases_lt}
+use Rattle.std.proofs.lemmas.Bool.{and_from, and_parts, cases_eq}
 use Rattle.std.proofs.lemmas.List.{get_or-set_other, get_or_default}
 use Rattle.std.proofs.lemmas.Nat.Bits.{bit_at-zero}
 use Rattle.std.proofs.lemmas.Option.{get_or_from_slice_get, slice_get-get_or, slice_get_within}
@@ -48,11 +48,11 @@ part_more k callees i gone word n at is part = record { only = only; all = all }
     all : (x : ℕ) (n : MethodNo) (l : ℕ) → x < i + 1 → slice_get callees x ≡ Some n → is_gone k n.0 l ≡ true → in_lock_mask (bit_or gone word) l ≡ true
     all x other l lt there on = ⊎_elim
         (λ here. (let same : n ≡ other = (let both : Some n ≡ Some other = sym at ∙ ap (slice_get callees) (sym here) ∙ there in cc) in
-            let set_bit : in_lock_mask word l ≡ true = subst (λ w. in_lock_mask w l ≡ true) (sym is) (subst (λ (m : MethodNo). is_gone k m.0 l ≡ true) (sym same) on) in
-            let both = and_parts _ _ set_bit in
-            and_from _ _ both.0 (eq-eqb (bit_at (bit_or gone word) l) 1 (or_right gone word l (eqb-true (bit_at word l) 1 both.1)))))
+        let set_bit : in_lock_mask word l ≡ true = subst (λ w. in_lock_mask w l ≡ true) (sym is) (subst (λ (m : MethodNo). is_gone k m.0 l ≡ true) (sym same) on) in
+        let both = and_parts _ _ set_bit in
+        and_from _ _ both.0 (eq-eqb (bit_at (bit_or gone word) l) 1 (or_right gone word l (eqb-true (bit_at word l) 1 both.1)))))
         (λ ne. (let both = and_parts _ _ (part.all x other l (omega (arith, lt, ne)) there on) in
-            and_from _ _ both.0 (eq-eqb (bit_at (bit_or gone word) l) 1 (or_left gone word l (eqb-true (bit_at gone l) 1 both.1)))))
+        and_from _ _ both.0 (eq-eqb (bit_at (bit_or gone word) l) 1 (or_left gone word l (eqb-true (bit_at gone l) 1 both.1)))))
         (cases_eq x i)
 
 pub part_whole : (k : KnownParts) (m i gone bound : ℕ) (callees : List MethodNo) → callees ≡ callees_at k.graph m i → 0 < length callees → length callees ≤ bound → IsPart k callees bound gone → IsUnion k m i gone

@@ -1,5 +1,5 @@
 -- More in the table, more that flows.
-use Rattle.std.proofs.Common.{◌≡◌, ℕ, suc, zero, pred, ◌<◌, List, [], ◌∷◌, length, map, replicate, drop, set, ◌∙◌, ◌+◌, Bool, true, false, if◌then◌else◌, eqb, Option, Some, None, refl, sym, ap}
+use Rattle.std.proofs.Common.{◌≡◌, ℕ, suc, zero, List, [], ◌∷◌, map, drop, set, ◌∙◌, ◌+◌, Bool, true, false, if◌then◌else◌, eqb, Option, Some, None, refl, sym, ap}
 use Rattle.std.specs.Prelude.{slice_get}
 use Rattle.ns_base.specs.declared.rows.LockNo.{LockNo}
 use Rattle.dalvik.specs.declared.ins.Args.{Args}
@@ -8,8 +8,7 @@ use Rattle.dalvik.specs.Calls.{receiver_of}
 use Rattle.app_model.specs.CallGraph.{GraphParts}
 use Rattle.app_model.specs.Components.{ComponentParts}
 use Rattle.app_model.specs.Parts.{AppParts}
-use Rattle.app_model.specs.Sites.{site_at}
-use Rattle.app_model.specs.TagTable.{TagParts, row_at}
+use Rattle.app_model.specs.TagTable.{TagParts}
 use Rattle.app_model.specs.declared.calls.By.{By}
 use Rattle.app_model.specs.declared.calls.By.TheVariants.{Virtual, Super, Direct, Static}
 use Rattle.app_model.specs.declared.lock_use.LockUse.{LockUse}
@@ -18,15 +17,15 @@ use Rattle.app_model.specs.declared.rows.MethodRow.{MethodRow}
 use Rattle.app_model.specs.declared.tag.Tag.{Tag}
 use Rattle.app_model.specs.declared.tag.Tag.TheVariants.{Bot, Zero, Solid, Held, Any, Field, New, Mixed}
 use Rattle.act_model.specs.declared.act.Act.{Act}
-use Rattle.act_model.specs.declared.act.Act.TheVariants.{Go, Test, Copy, TakeResult, Write, Fill, ReadSlot, WriteSlot, Give, Check, Throw, Return, Call}
+use Rattle.act_model.specs.declared.act.Act.TheVariants.{Copy, TakeResult, Write, Fill, ReadSlot, WriteSlot, Call}
 use Rattle.act_model.specs.declared.act.Gives.{Gives}
 use Rattle.act_model.specs.declared.act.Returned.{Returned}
 use Rattle.act_model.specs.declared.act.Returned.TheVariants as returned
-use Rattle.act_model.specs.Changes.{after, after_stored, call_change, called, called_change, field_after, held_change, held_tag, new_after, put, result_cell, result_tag, stored_change, tag_in, thrown, without_held}
+use Rattle.act_model.specs.Changes.{after, after_stored, call_change, called, called_change, field_after, held_change, held_tag, new_after, put, result_cell, result_tag, stored_change, tag_in, thrown}
 use Rattle.act_model.specs.Entries.{call_words, entering, entering_words, entry_row, fitted}
 use Rattle.act_model.specs.Tags.{Under, itself, bot_all, zero_any, solid_any, held_any, all_mixed}
 use Rattle.flow_model.specs.TagFlow.{Flow, begins, goes_on, back_from_outside, throws, enters, passes_call, comes_back, throws_out, TableUnder, answered, callee_row, only_result, without_result}
-use Rattle.tag_flow.specs.Laws.{FlowLaw, RowUnder, nil, more}
+use Rattle.tag_flow.specs.Laws.{RowUnder, nil, more}
 use Rattle.tag_flow.proofs.Rows.{append_under, len_under, live_under, made_under, map_under, row_same, set_under, table_rows, tag_under, under_trans}
 
 under_any : (b : Bool) (k : LockNo) → Under (if b then Any else Held k) Any

@@ -1,5 +1,5 @@
 -- The calls that make a lock, in order.
-use Rattle.std.proofs.Common.{◌≡◌, ◌≢◌, ℕ, suc, zero, ◌+◌, ◌<◌, ◌≤◌, List, [], ◌∷◌, ◌++◌, length, get_or, Bool, true, false, if◌then◌else◌, Option, Some, None, refl, sym, ap, ◌∙◌, subst, ⊎_elim, arith, Contains}
+use Rattle.std.proofs.Common.{◌≡◌, ◌≢◌, ℕ, suc, ◌+◌, ◌<◌, List, [], ◌∷◌, ◌++◌, length, get_or, Bool, true, false, if◌then◌else◌, Some, refl, sym, ap, ◌∙◌, subst, ⊎_elim, arith, Contains}
 use Rattle.std.specs.Prelude.{slice_get}
 use Rattle.std.proofs.lemmas.Bool.{cases_eq, cases_lt, false≢true}
 use Rattle.std.proofs.lemmas.List.{get_or_append_left, get_or_push, length_push}
@@ -49,8 +49,8 @@ sites_push app m i sites on are = record {
         ⊎_elim
         (λ less. are.only n s (slice_get-get_or sites n s less ∙ ap Some (sym (get_or_append_left sites (site m i ∷ []) s n less) ∙ read)))
         (λ le. (let at : length sites ≡ n = omega (arith, lt, le, length_push sites (site m i)) in
-            let is : site m i ≡ s = sym (get_or_push sites (site m i) s n at) ∙ read in
-            sym at ∙ are.len ∙ ap (λ (one : Site). site_at app one.method.0 one.index) is))
+        let is : site m i ≡ s = sym (get_or_push sites (site m i) s n at) ∙ read in
+        sym at ∙ are.len ∙ ap (λ (one : Site). site_at app one.method.0 one.index) is))
         (cases_lt n (length sites))
 
 pub sites_next : (app : AppParts) (m i : ℕ) (sites : List Site) → i ≡ code_len app m → AreSitesBefore app m i sites → AreSitesBefore app (m + 1) 0 sites

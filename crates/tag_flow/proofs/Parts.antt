@@ -1,10 +1,9 @@
 -- What parts of one instruction's work come to.
-use Rattle.std.proofs.Common.{◌≡◌, ℕ, ◌<◌, Bool, true, false, Option, Some, None, refl, sym, ap, ◌∙◌, subst}
+use Rattle.std.proofs.Common.{◌≡◌, ℕ, Bool, true, false, Option, Some, None, refl, sym, ap, ◌∙◌, subst}
 use Rattle.std.specs.Prelude.{◌&&◌, ◌||◌, not}
 use Rattle.std.proofs.lemmas.Bool.{false≢true}
 use Rattle.ns_base.specs.declared.rows.MethodNo.{MethodNo}
 use Rattle.dalvik.specs.declared.ins.Args.{Args}
-use Rattle.app_model.specs.Sites.{site_at}
 use Rattle.app_model.specs.TagTable.{row_at, tag_at}
 use Rattle.app_model.specs.declared.calls.By.{By}
 use Rattle.app_model.specs.declared.lock_use.LockUse.{LockUse}
@@ -17,7 +16,7 @@ use Rattle.act_model.specs.declared.act.Returned.{Returned}
 use Rattle.flow_model.specs.TagFlow.{is_call, leads_on}
 use Rattle.tag_flow.specs.declared.calling.Handing.{Handing}
 use Rattle.tag_flow.specs.declared.change.Change.TheVariants.{After}
-use Rattle.tag_flow.specs.Known.{KnownParts, row_width}
+use Rattle.tag_flow.specs.Known.{KnownParts}
 use Rattle.tag_flow.specs.State.{StateParts}
 use Rattle.tag_flow.specs.Turns.{IsSite, Turn, goes_by_itself, handing_of, returned_of}
 use Rattle.tag_flow.specs.Goals.{AllSucceeded, Entered, RowPassed, WentOn, entering_row}
@@ -58,8 +57,8 @@ pub entered : (k : KnownParts) (m i : ℕ) (a : Act) (n : MethodNo) (handing : H
     → Turn k (RowPassed k n.0 0 (entering_row k m i n.0 handing.by handing.args)) old new x → Turn k (Entered k m i a n) old new x
 entered k m i a n handing old new x e = turn_as k (RowPassed k n.0 0 (entering_row k m i n.0 handing.by handing.args)) (Entered k m i a n) old new x
     (λ s h how usage arguments gives is lt. (let both : Some handing ≡ Some (record { by = how; args = arguments }) = e ∙ ap handing_of is in
-        let same : handing ≡ record { by = how; args = arguments } = cc in
-        subst (λ (one : Handing). RowPassed k n.0 0 (entering_row k m i n.0 one.by one.args) s) same h))
+    let same : handing ≡ record { by = how; args = arguments } = cc in
+    subst (λ (one : Handing). RowPassed k n.0 0 (entering_row k m i n.0 one.by one.args) s) same h))
 
 pub no_answer : (a : Act) → None ≡ returned_of a → (answer : Returned) → a ≡ Return answer → ⊥
 no_answer a none answer is = (let both : None ≡ Some answer = none ∙ ap returned_of is in cc)

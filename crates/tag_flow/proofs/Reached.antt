@@ -1,6 +1,6 @@
 -- Entries of callbacks, what calls reach from them, and to which lock fields that stores.
 use Rattle.std.proofs.Common.{◌≡◌, ℕ, suc, zero, ◌<◌, ◌≤◌, ◌++◌, List, [], ◌∷◌, length, Bool, true, false, Option, Some, None, refl, sym, ap, ◌∙◌, subst, inl, inr, ⊎_elim, arith, Contains, get_or, take, ◌+◌, lt-ltb, eq-eqb, eqb-true}
-use Rattle.std.specs.Prelude.{◌⊎◌, ◌↔◌, slice_get, flat_map, ◌==◌}
+use Rattle.std.specs.Prelude.{◌⊎◌, slice_get, flat_map}
 use Rattle.std.specs.Int.{bit_at}
 use Rattle.std.specs.List.{All}
 use Rattle.std.proofs.lemmas.Bool.{and_from, and_parts, cases_lt, false≢true, ltb-true}
@@ -122,8 +122,10 @@ pub tells_reached : (app : AppParts) (graph : GraphParts) (list : List Component
     → TellsReached graph list (λ m. get_or marks m false)
 tells_reached app graph list marks fits belongs are m = ⊎_elim
     (λ lt. are.exact m lt)
-    (λ past. (λ e. absurd (false≢true (sym (get_or_past marks m false (omega (arith, past, are.len))) ∙ e)),
-    λ reached. absurd (let lt = reached_below app graph fits (entries_of list) (entries_below app list belongs) m reached in omega (arith, lt, past))))
+    (λ past. (
+      λ e. absurd (false≢true (sym (get_or_past marks m false (omega (arith, past, are.len))) ∙ e)),
+      λ reached. absurd (let lt = reached_below app graph fits (entries_of list) (entries_below app list belongs) m reached in omega (arith, lt, past)),
+    ))
     (cases_lt m (length app.methods))
 
 -- ---- stores

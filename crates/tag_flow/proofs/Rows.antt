@@ -1,16 +1,15 @@
 -- Rows of tags, one under the other.
-use Rattle.std.proofs.Common.{◌≡◌, ◌≢◌, ℕ, suc, zero, pred, ◌+◌, ◌<◌, ◌≤◌, List, [], ◌∷◌, ◌++◌, length, get_or, set, map, replicate, refl, sym, ap, ◌∙◌, ⊎_elim, arith}
+use Rattle.std.proofs.Common.{◌≡◌, ℕ, suc, zero, ◌+◌, ◌<◌, List, [], ◌∷◌, ◌++◌, length, get_or, set, map, refl, sym, ap, ◌∙◌, ⊎_elim, arith}
 use Rattle.std.proofs.lemmas.Bool.{cases_lt}
-use Rattle.std.proofs.lemmas.List.{get_or-map, get_or_past, length-map}
-use Rattle.app_model.specs.TagTable.{TagParts, row_at, tag_at, width_at}
+use Rattle.app_model.specs.TagTable.{TagParts, row_at, width_at}
 use Rattle.app_model.specs.declared.tag.Tag.{Tag}
-use Rattle.app_model.specs.declared.tag.Tag.TheVariants.{Bot, Zero, Solid, Held, Any, Field, New, Mixed}
+use Rattle.app_model.specs.declared.tag.Tag.TheVariants.{Bot}
 use Rattle.app_model.proofs.Cells.{length-row_at, tag_past, tag_within}
 use Rattle.act_model.specs.Changes.{tag_in}
-use Rattle.act_model.specs.Tags.{Under, itself, bot_all, zero_any, solid_any, held_any, all_mixed, IsJoin}
+use Rattle.act_model.specs.Tags.{Under, itself, bot_all, zero_any, solid_any, held_any, all_mixed}
 use Rattle.flow_model.specs.TagFlow.{IsLive, TableUnder}
 use Rattle.tag_flow.specs.Laws.{RowUnder, nil, more}
-use Rattle.tag_flow.specs.Cells.{Grows, tag_there}
+use Rattle.tag_flow.specs.Cells.{Grows}
 
 pub under_trans : {a b c : Tag} → Under a b → Under b c → Under a c
 under_trans itself k = k

@@ -1,21 +1,19 @@
 -- What holds at an instruction of a method that is reached.
-use Rattle.std.proofs.Common.{◌≡◌, ℕ, ◌+◌, ◌*◌, ◌<◌, ◌≤◌, Bool, true, List, length, get_or, if◌then◌else◌, [], Some, sym, ap, ◌∙◌, subst, ⊎_elim, arith, Contains}
+use Rattle.std.proofs.Common.{◌≡◌, ℕ, ◌+◌, ◌*◌, ◌<◌, ◌≤◌, Bool, List, length, get_or, if◌then◌else◌, Some, sym, ap, ◌∙◌, ⊎_elim, arith}
 use Rattle.std.specs.Prelude.{slice_get}
 use Rattle.std.proofs.lemmas.Bool.{cases_lt}
 use Rattle.std.proofs.lemmas.List.{get_or-map}
 use Rattle.std.proofs.lemmas.Option.{get_or_from_slice_get, slice_get_within}
-use Rattle.ns_base.specs.declared.rows.MethodNo.{MethodNo}
-use Rattle.app_model.specs.TagTable.{TagParts, cell_at, row_at, tag_at, tag_of, width_at}
+use Rattle.app_model.specs.TagTable.{cell_at, tag_at, tag_of, width_at}
 use Rattle.app_model.specs.Words.{code_len}
 use Rattle.app_model.specs.declared.rows.MethodRow.{MethodRow}
-use Rattle.app_model.specs.declared.tag.Tag.{Tag}
 use Rattle.app_model.specs.declared.tag.Tag.TheVariants.{Bot}
 use Rattle.app_model.proofs.Cells.{length-row_at, tag_past, tag_within}
 use Rattle.act_model.specs.Changes.{tag_in}
 use Rattle.flow_model.specs.TagFlow.{IsLive}
 use Rattle.tag_flow.specs.declared.known.Spot.{Spot}
 use Rattle.tag_flow.specs.Cells.{cells_len}
-use Rattle.tag_flow.specs.Known.{IsKnown, KnownParts, is_reached, registers_of, row_width}
+use Rattle.tag_flow.specs.Known.{IsKnown, KnownParts, row_width}
 use Rattle.tag_flow.specs.State.{IsSpot, IsState, StateParts, row_of}
 
 -- the width of a row of the table
@@ -50,5 +48,7 @@ same_tags k s from to r state is lt width same =
 
 -- the row at the entry of a method has its registers
 pub method_fits : (k : KnownParts) (known : IsKnown k) (m : ℕ) (method : MethodRow) → slice_get k.app.methods m ≡ Some method → (method.ins ≤ method.registers) × (row_width k.app m ≡ method.registers + 1)
-method_fits k known m method at = ((known.app.methods m method at).fits,
-    ap (λ n. n + 1) (get_or-map (λ (one : MethodRow). one.registers) k.app.methods m method 0 (slice_get_within k.app.methods m method at) ∙ ap (λ (one : MethodRow). one.registers) (get_or_from_slice_get k.app.methods m method method at)))
+method_fits k known m method at = (
+  (known.app.methods m method at).fits,
+  ap (λ n. n + 1) (get_or-map (λ (one : MethodRow). one.registers) k.app.methods m method 0 (slice_get_within k.app.methods m method at) ∙ ap (λ (one : MethodRow). one.registers) (get_or_from_slice_get k.app.methods m method method at)),
+)

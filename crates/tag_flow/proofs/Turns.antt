@@ -1,7 +1,7 @@
 -- Parts of the work, one after another.
-use Rattle.std.proofs.Common.{◌≡◌, ℕ, ◌+◌, ◌≤◌, ◌<◌, Bool, true, false, refl, sym, ap, ◌∙◌, subst, ⊎_elim, arith, below_more}
+use Rattle.std.proofs.Common.{ℕ, ◌+◌, ◌≤◌, Bool, false, refl, sym, ap, ◌∙◌, subst, ⊎_elim, arith, below_more}
 use Rattle.std.specs.Prelude.{◌||◌}
-use Rattle.std.proofs.lemmas.Bool.{or_parts, or_cases, cases_Bool, cases_lt, false≢true, true≢false}
+use Rattle.std.proofs.lemmas.Bool.{or_parts, or_cases, cases_Bool, cases_lt, false≢true}
 use Rattle.tag_flow.specs.Known.{KnownParts}
 use Rattle.tag_flow.specs.declared.known.Spot.{Spot}
 use Rattle.tag_flow.specs.declared.passing.Step.{Step}

@@ -1,5 +1,5 @@
 -- Single tags of the rows at the start of methods.
-use Rattle.std.proofs.Common.{◌≡◌, ◌≢◌, ℕ, suc, zero, pred, ◌+◌, ◌-◌, ◌<◌, ◌≤◌, List, [], ◌∷◌, ◌++◌, length, get_or, map, drop, replicate, Bool, true, false, if◌then◌else◌, min, Option, Some, None, refl, sym, ap, ◌∙◌, subst, ⊎_elim, arith, lt-ltb, le-ltb}
+use Rattle.std.proofs.Common.{◌≡◌, ◌≢◌, ℕ, suc, zero, ◌+◌, ◌-◌, ◌<◌, ◌≤◌, List, [], ◌∷◌, ◌++◌, length, get_or, drop, replicate, Bool, true, false, if◌then◌else◌, min, Some, None, refl, sym, ap, ◌∙◌, ⊎_elim, arith, lt-ltb, le-ltb}
 use Rattle.std.specs.Prelude.{slice_get, nat_lt}
 use Rattle.std.specs.List.{range_with_len}
 use Rattle.std.proofs.lemmas.List.FromFn.{get_or-range_with_len, length-range_with_len}
@@ -40,17 +40,17 @@ module _ (registers ins : ℕ) (words : List Tag) (le : ins ≤ registers) where
   pub entry_tag : (r : ℕ) → r ≤ registers → tag_in (entry_row Zero registers ins words) r ≡ word_tag words (word_no registers ins r)
   entry_tag r within = ⊎_elim
       (λ (first : r < registers - ins). rw (lt-ltb r (registers - ins) first)
-          (get_or_append_left inner (Zero ∷ []) Bot r (let e = inner_len in omega (arith, e, first))
-          ∙ get_or_append_left low (fitted Zero ins words) Bot r (let e = low_len in omega (arith, e, first))
-          ∙ get_or-replicate (registers - ins) r Zero Bot first))
+      (get_or_append_left inner (Zero ∷ []) Bot r (let e = inner_len in omega (arith, e, first))
+      ∙ get_or_append_left low (fitted Zero ins words) Bot r (let e = low_len in omega (arith, e, first))
+      ∙ get_or-replicate (registers - ins) r Zero Bot first))
       (λ (later : registers - ins ≤ r). rw (le-ltb r (registers - ins) later) (⊎_elim {A = r < registers} {B = registers ≤ r}
-          (λ lt. rw (lt-ltb r registers lt)
-              (get_or_append_left inner (Zero ∷ []) Bot r (let e = inner_len in omega (arith, e, lt))
-              ∙ get_or-append_right low (fitted Zero ins words) (registers - ins) r Bot low_len later
-              ∙ fitted_tag ins words (r - (registers - ins)) (omega (arith, lt, later, le))))
-          (λ end. rw (le-ltb r registers end)
-              (get_or-append_right inner (Zero ∷ []) registers r Bot inner_len end ∙ (let at : r - registers ≡ 0 = omega (arith, end, within) in rw at refl)))
-          (cases_lt r registers)))
+      (λ lt. rw (lt-ltb r registers lt)
+      (get_or_append_left inner (Zero ∷ []) Bot r (let e = inner_len in omega (arith, e, lt))
+      ∙ get_or-append_right low (fitted Zero ins words) (registers - ins) r Bot low_len later
+      ∙ fitted_tag ins words (r - (registers - ins)) (omega (arith, lt, later, le))))
+      (λ end. rw (le-ltb r registers end)
+      (get_or-append_right inner (Zero ∷ []) registers r Bot inner_len end ∙ (let at : r - registers ≡ 0 = omega (arith, end, within) in rw at refl)))
+      (cases_lt r registers)))
       (cases_lt r (registers - ins))
 
 -- ---- words of calls

@@ -1,7 +1,5 @@
 -- Which word of its arguments a register of a method has at the start.
-use Rattle.std.specs.Prelude.{ℕ, zero, suc, ◌-◌, nat_lt, ◌==◌, if◌then◌else◌, Bool, true, false, List, Option, Some, None, slice_index_or}
-use Rattle.app_model.specs.declared.calls.By.{By}
-use Rattle.app_model.specs.declared.calls.By.TheVariants.{Virtual, Super, Direct, Static}
+use Rattle.std.specs.Prelude.{ℕ, ◌-◌, nat_lt, if◌then◌else◌, List, Option, Some, None, slice_index_or}
 use Rattle.app_model.specs.declared.tag.Tag.{Tag}
 use Rattle.app_model.specs.declared.tag.Tag.TheVariants.{Zero}
 

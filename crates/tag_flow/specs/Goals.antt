@@ -1,5 +1,5 @@
 -- What is done where a part of the work changes nothing.
-use Rattle.std.specs.Prelude.{ℕ, ◌≡◌, ◌<◌, ◌+◌, Bool, true, false, List, Contains, length, pred, Some, slice_get, slice_index_or}
+use Rattle.std.specs.Prelude.{ℕ, ◌≡◌, ◌<◌, true, List, Contains, length, pred, Some, slice_get}
 use Rattle.ns_base.specs.declared.rows.MethodNo.{MethodNo}
 use Rattle.dalvik.specs.declared.ins.Args.{Args}
 use Rattle.app_model.specs.CallGraph.{callees_at, outside_at}

@@ -1,5 +1,5 @@
 -- What is known of an application before its tags are.
-use Rattle.std.specs.Prelude.{ℕ, ◌≡◌, ◌<◌, ◌≤◌, ◌+◌, ◌^◌, Bool, true, false, List, Contains, length, map, filter_map, Option, Some, slice_get, slice_index, slice_index_or}
+use Rattle.std.specs.Prelude.{ℕ, ◌≡◌, ◌<◌, ◌≤◌, ◌+◌, Bool, true, false, List, Contains, length, map, filter_map, Option, Some, slice_get, slice_index, slice_index_or}
 use Rattle.ns_base.specs.declared.rows.MethodNo.{MethodNo}
 use Rattle.app_model.specs.CallGraph.{GraphParts}
 use Rattle.app_model.specs.Components.{BelongsTo, ComponentParts, entries_of}

@@ -1,5 +1,5 @@
 -- The table while it is made, and what the returns of each method gave so far.
-use Rattle.std.specs.Prelude.{ℕ, ◌≡◌, ◌<◌, ◌≤◌, ◌+◌, ◌*◌, ◌^◌, Bool, true, if◌then◌else◌, List, [], length, replicate, slice_index_or}
+use Rattle.std.specs.Prelude.{ℕ, ◌≡◌, ◌<◌, ◌≤◌, ◌+◌, ◌*◌, ◌^◌, true, if◌then◌else◌, List, [], length, replicate, slice_index_or}
 use Rattle.app_model.specs.TagTable.{TagParts, cells_of, row_at}
 use Rattle.app_model.specs.Words.{code_len}
 use Rattle.app_model.specs.declared.tag.Tag.{Tag}

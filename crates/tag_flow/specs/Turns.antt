@@ -7,7 +7,6 @@ use Rattle.app_model.specs.Sites.{is_make, site_at}
 use Rattle.app_model.specs.TagTable.{TagParts, row_at}
 use Rattle.app_model.specs.Words.{handler_at, successor_at}
 use Rattle.app_model.specs.declared.tag.Tag.{Tag}
-use Rattle.app_model.specs.declared.tag.Tag.TheVariants.{Bot}
 use Rattle.ns_base.specs.declared.rows.MethodNo.{MethodNo}
 use Rattle.act_model.specs.Acts.{act_at}
 use Rattle.act_model.specs.Changes.{after, called, tag_in, thrown}

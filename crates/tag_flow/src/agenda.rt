@@ -141,7 +141,11 @@ impl Agenda {
 
     // The number of a place's bit.
     fn bit(&self, place: Place) -> u32 {
-        let first = self.firsts.get(place.method.0 as usize).copied().unwrap_or(0);
+        let first = self
+            .firsts
+            .get(place.method.0 as usize)
+            .copied()
+            .unwrap_or(0);
         first.wrapping_mul(WORD).wrapping_add(place.index)
     }
 

@@ -52,7 +52,13 @@ fn enter_cell(
 {
     known.told();
     let method = known.method(to.method);
-    let tag = called_tag(&state.row(from), handing.by, &handing.args, method, register);
+    let tag = called_tag(
+        &state.row(from),
+        handing.by,
+        &handing.args,
+        method,
+        register,
+    );
     state.join(known, to, register, tag)
 }
 
@@ -129,13 +135,7 @@ fn call_one(known: &Known, state: &mut State, from: Spot, act: Act, callee: Meth
     entered | back
 }
 
-fn call_all(
-    known: &Known,
-    state: &mut State,
-    from: Spot,
-    act: Act,
-    callees: &[MethodNo],
-) -> bool
+fn call_all(known: &Known, state: &mut State, from: Spot, act: Act, callees: &[MethodNo]) -> bool
     requires source { IsSource known.now state.old from }
     requires act { act_at known.now.app from.method.0 from.index ≡ Some act }
     requires callees { callees.now ≡ callees_at known.now.graph from.method.0 from.index }

@@ -12,22 +12,13 @@ use app_model::{LockUse, Tag};
 #[derive(Clone, Copy)]
 pub(crate) enum Change {
     /// The row after an act; after a call, where it leads outside.
-    After {
-        site: u32,
-        act: Act,
-    },
+    After { site: u32, act: Act },
     /// The row where an act threw.
-    Thrown {
-        act: Act,
-    },
+    Thrown { act: Act },
     /// The row past a call of methods whose reach stores to the lock fields of a mask, without what they answer.
-    Past {
-        gone: u64,
-    },
+    Past { gone: u64 },
     /// The row where a call of such methods threw.
-    Out {
-        gone: u64,
-    },
+    Out { gone: u64 },
 }
 
 /// Two cells of a row; all others are kept.

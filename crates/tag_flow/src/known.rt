@@ -69,10 +69,7 @@ fn add_entry(entry: Option<MethodNo>, entries: &mut Vec<MethodNo>) -> Result<(),
 }
 
 // The methods of a component's callbacks.
-fn add_entries(
-    methods: &[Option<MethodNo>],
-    entries: &mut Vec<MethodNo>,
-) -> Result<(), AllocError>
+fn add_entries(methods: &[Option<MethodNo>], entries: &mut Vec<MethodNo>) -> Result<(), AllocError>
     ensures { IfOk result (λ done. entries.new.items ≡ entries.old.items ++ chosen methods.now) }
 {
     for i in 0..methods.len() {

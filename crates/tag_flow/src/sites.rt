@@ -24,11 +24,7 @@ pub(crate) fn is_make(usage: LockUse) -> bool
 }
 
 // The calls of a method.
-fn add_sites(
-    app: &App,
-    method: MethodNo,
-    sites: &mut Vec<Site>,
-) -> Result<(), AllocError>
+fn add_sites(app: &App, method: MethodNo, sites: &mut Vec<Site>) -> Result<(), AllocError>
     requires method { method.0 < length app.now.methods }
     requires before { AreSitesBefore app.now method.0 0 sites.old.items }
     ensures { IfOk result (λ done. AreSitesBefore app.now method.0 (code_len app.now method.0) sites.new.items) }

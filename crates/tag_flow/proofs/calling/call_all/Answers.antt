@@ -1,6 +1,5 @@
-use Rattle.std.proofs.Common.{◌≡◌, Some, List, length, ap, arith, get_or, subst, Contains}
+use Rattle.std.proofs.Common.{◌≡◌, Some, List, length, ap, arith, get_or, subst}
 use Rattle.std.specs.Prelude.{slice_get}
-use Rattle.std.proofs.lemmas.List.Elements.{Contains-get_or}
 use Rattle.std.proofs.lemmas.Option.{slice_get-get_or}
 use Rattle.ns_base.specs.declared.rows.MethodNo.{MethodNo}
 use Rattle.app_model.specs.CallGraph.{callees_at}

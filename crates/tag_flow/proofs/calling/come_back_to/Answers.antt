@@ -1,4 +1,4 @@
-use Rattle.std.proofs.Common.{◌-◌, arith, rules, subst, sym}
+use Rattle.std.proofs.Common.{◌-◌, rules, subst}
 use Rattle.tag_flow.specs.Goals.{AnswerAt}
 use Rattle.tag_flow.specs.Turns.{Turn}
 use Rattle.tag_flow.proofs.Below.{back_turn}

@@ -1,4 +1,4 @@
-use Rattle.std.proofs.Common.{◌≡◌, ap, subst, sym, arith}
+use Rattle.std.proofs.Common.{subst, arith}
 use Rattle.ns_base.specs.declared.rows.MethodNo.{MethodNo}
 use Rattle.tag_flow.specs.Goals.{RowPassed, entering_row}
 use Rattle.tag_flow.specs.Turns.{Turn}

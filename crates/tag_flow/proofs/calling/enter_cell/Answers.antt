@@ -1,7 +1,6 @@
 use Rattle.std.proofs.Common.{arith}
 use Rattle.tag_flow.proofs.Below.{enter_turn}
 use Rattle.tag_flow.proofs.Entered.{entering_fits, entering_is}
-use Rattle.tag_flow.proofs.Reached.{known_below}
 use Rattle.tag_flow.proofs.calling.enter_cell.Goals as goal
 
 pub called_tag-tag-requires-clause-register : goal.called_tag-tag-requires-clause-register

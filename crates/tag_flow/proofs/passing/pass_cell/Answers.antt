@@ -1,7 +1,7 @@
 use Rattle.std.proofs.Common.{refl}
 use Rattle.tag_flow.proofs.Turns.{turn_none}
 use Rattle.tag_flow.proofs.Below.{pass_turn}
-use Rattle.tag_flow.proofs.Settled.{step_fits, step_within, step_width}
+use Rattle.tag_flow.proofs.Settled.{step_fits, step_within}
 use Rattle.tag_flow.proofs.passing.pass_cell.Goals as goal
 
 pub returns-then-is_settled : goal.returns-then-is_settled

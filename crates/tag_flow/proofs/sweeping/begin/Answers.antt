@@ -1,4 +1,4 @@
-use Rattle.std.proofs.Common.{◌≡◌, arith, subst}
+use Rattle.std.proofs.Common.{arith, subst}
 use Rattle.ns_base.specs.declared.rows.MethodNo.{MethodNo}
 use Rattle.tag_flow.specs.Goals.{RowPassed, begun_row}
 use Rattle.tag_flow.specs.Turns.{Turn}

@@ -1,6 +1,5 @@
-use Rattle.std.proofs.Common.{◌≤◌, arith, ⊎_elim}
-use Rattle.std.proofs.lemmas.Bool.{cases_lt, false≢true}
-use Rattle.app_model.proofs.Cells.{tag_past}
+use Rattle.std.proofs.Common.{arith}
+use Rattle.std.proofs.lemmas.Bool.{false≢true}
 use Rattle.tag_flow.proofs.Spots.{not_live}
 use Rattle.tag_flow.proofs.state.State.is_live.Goals as goal
 

@@ -1,5 +1,4 @@
-use Rattle.std.proofs.Common.{ap, rules}
-use Rattle.tag_flow.specs.Known.{row_width}
+use Rattle.std.proofs.Common.{rules}
 use Rattle.tag_flow.proofs.Spots.{same_tags}
 use Rattle.tag_flow.proofs.state.State.is_same.Goals as goal
 
