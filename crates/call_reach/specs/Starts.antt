@@ -1,5 +1,5 @@
 -- Reach and stores as bits: what they begin with, and what they come to.
-use Rattle.std.specs.Prelude.{ℕ, ◌≡◌, ◌<◌, ◌≤◌, ◌==◌, ◌⊎◌, ◌↔◌, Bool, true, false, List, Contains, length, slice_index, slice_index_or}
+use Rattle.std.specs.Prelude.{ℕ, ◌≡◌, ◌<◌, ◌≤◌, ◌==◌, ◌⊎◌, ◌↔◌, Bool, true, false, List, [], ◌∷◌, Contains, length, slice_index, slice_index_or}
 use Rattle.std.specs.Int.{bit_at}
 use Rattle.ns_base.specs.declared.rows.MethodNo.{MethodNo}
 use Rattle.app_model.specs.CallGraph.{GraphParts}
@@ -24,6 +24,11 @@ pub record AreGiven (from : List MethodNo) (old new : List ℕ) : Type 0 where
 pub record AreReached (app : AppParts) (graph : GraphParts) (from : List MethodNo) (marks : List Bool) : Type 0 where
   pub exact : (m : ℕ) → m < length app.methods → (slice_index_or marks m false ≡ true) ↔ IsReached graph from m
   pub len : length marks ≡ length app.methods
+
+-- ---- bits of methods: each word joins those of the reach of its method, itself included
+pub record AreGathered (app : AppParts) (graph : GraphParts) (own words : List ℕ) : Type 0 where
+  pub exact : (m b : ℕ) → m < length app.methods → b < 64 → Has words m b ↔ ((n : ℕ) × IsReached graph (record { 0 = m } ∷ []) n × Has own n b)
+  pub len : length words ≡ length app.methods
 
 -- ---- stores: a bit for each lock field
 abbrev pub Stores : AppParts → (m l : ℕ) → Type 0

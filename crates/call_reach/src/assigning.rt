@@ -6,7 +6,7 @@ ghost use Rattle.app_model.specs.Targets.{IsCallGraph};
 ghost use Rattle.app_model.specs.Words.{code_len};
 ghost use Rattle.call_reach.specs.Starts.{AreAssigned, AreStores, Stores};
 
-use crate::net::{Way, carry, node_count};
+use crate::gathering::gathers;
 use app_model::{App, CallGraph};
 use dalvik::{Ins, opcode};
 use ns_base::{LockNo, MethodNo, OutOfMemory};
@@ -65,29 +65,12 @@ fn own_stores(app: &App, words: &mut [u64])
     }
 }
 
-// A word for each node: the own stores of the methods.
-fn own_words(alloc: Global, app: &App, nodes: u32) -> Result<Vec<u64>, AllocError>
-    requires { length app.now.methods ≤ nodes }
-    ensures { IfOk result (λ words. AreStores app.now (length app.now.methods) (replicate nodes 0) words.items) }
+// A word for each method: its own stores.
+fn own_words(alloc: Global, app: &App) -> Result<Vec<u64>, AllocError>
+    ensures { IfOk result (λ words. AreStores app.now (length app.now.methods) (replicate (length app.now.methods) 0) words.items) }
 {
-    let mut words = vec![in alloc; 0; nodes as usize]?;
+    let mut words = vec![in alloc; 0; app.method_count() as usize]?;
     own_stores(app, &mut words);
-    Ok(words)
-}
-
-fn find_assigned(
-    alloc: Global,
-    app: &App,
-    graph: &CallGraph,
-    nodes: u32,
-) -> Result<Vec<u64>, AllocError>
-    requires graph { IsCallGraph app.now graph.now }
-    requires nodes { nodes ≡ length app.now.methods + length graph.now.sets }
-    ensures { IfOk result (λ masks. AreAssigned app.now graph.now masks.items) }
-{
-    let mut words = own_words(alloc, app, nodes)?;
-    carry(alloc, app, graph, Way::ToCallers, &mut words)?;
-    words.truncate(app.method_count() as usize);
     Ok(words)
 }
 
@@ -97,11 +80,8 @@ pub fn assigns(alloc: Global, app: &App, graph: &CallGraph) -> Result<Vec<u64>, 
     requires { IsCallGraph app.now graph.now }
     ensures { IfOk result (λ masks. AreAssigned app.now graph.now masks.items) }
 {
-    let Some(nodes) = node_count(app, graph) else {
-        return Err(OutOfMemory);
-    };
-    match find_assigned(alloc, app, graph, nodes) {
-        Ok(masks) => Ok(masks),
+    match own_words(alloc, app) {
+        Ok(words) => gathers(alloc, app, graph, words),
         Err(AllocError) => Err(OutOfMemory),
     }
 }

@@ -1,4 +1,5 @@
 pub mod Laws
 pub mod Lists
 pub mod MaskLaws
+pub mod Slots
 pub mod TestLaws

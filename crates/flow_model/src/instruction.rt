@@ -12,10 +12,10 @@ use ns_base::{LockNo, MethodNo};
 
 /// The tags before an instruction.
 #[derive(Clone, Copy)]
-struct TagsAt<'a> {
-    table: &'a TagTable,
-    method: MethodNo,
-    index: u32,
+pub struct TagsAt<'a> {
+    pub table: &'a TagTable,
+    pub method: MethodNo,
+    pub index: u32,
 }
 
 impl Row for TagsAt<'_> {

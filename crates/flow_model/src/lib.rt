@@ -18,7 +18,7 @@ mod scope;
 mod status;
 
 pub use act_model::join;
-pub use instruction::{opens, own_operation, pass, throws};
+pub use instruction::{TagsAt, opens, own_operation, pass, throws};
 pub use masks::{
     Branches, Outcome, after_acquire, after_is_held, after_mode, after_null, after_release,
     after_store, has_status, held_test, image, null_test,

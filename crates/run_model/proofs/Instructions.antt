@@ -44,7 +44,7 @@ use Rattle.run_model.proofs.Meanings.{KeepsBut, only_at, held_same, means_null, 
 use Rattle.run_model.proofs.Registers.{tagged_map, tagged_put, tagged_read, tagged_retag, tagged_set}
 use Rattle.run_model.proofs.Entries.{written_ok}
 use Rattle.run_model.proofs.Masks.{fails_zero, in_if, passes_full, test_ok}
-use Rattle.run_model.proofs.Slots.{stored_below}
+use Rattle.flow_model.proofs.Slots.{stored_below}
 use Rattle.run_model.proofs.Calls.{call_ok, given_by_tag}
 use Rattle.run_model.proofs.Steps.{Premises, Stand, goes_ok, none_waits, only_status, out_of, quiet_ok, row_of, start_status, throws_ok}
 

@@ -6,7 +6,6 @@ pub mod Meanings
 pub mod Registers
 pub mod Entries
 pub mod Callbacks
-pub mod Slots
 pub mod Targets
 pub mod Steps
 pub mod Masks

@@ -37,7 +37,7 @@ use Rattle.run_model.specs.Calls.{GoesOutside, IsStuck, found_for, found_target,
 use Rattle.run_model.specs.Soundness.{FitsTarget}
 use Rattle.app_model.specs.Ancestors.{IsAncestor, its_parent, further}
 use Rattle.app_model.proofs.HierarchyLaws.{stands_above}
-use Rattle.run_model.proofs.Slots.{nearest_below}
+use Rattle.flow_model.proofs.Slots.{nearest_below}
 
 -- ---- members
 any_there : {X : Type 0} (p : X → Bool) (xs : List X) (k : ℕ) (x : X) → slice_get xs k ≡ Some x → p x ≡ true → list_any p xs ≡ true

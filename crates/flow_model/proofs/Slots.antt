@@ -37,7 +37,7 @@ named_below app (Some field) l is = by (bytes_eq (type_text app field.kind.0) wa
     by true is = nearest_below (lock_in app field.name.0) (length app.locks) l (λ c k found. (position-Some _ app.locks k (record { 0 = 0 }) found).0) (line_of app.classes field.class.0) is
     by false is = cc
 
-slot_below : (app : AppParts) (m i l : ℕ) → slot_at app m i ≡ Some l → l < length app.locks
+pub slot_below : (app : AppParts) (m i l : ℕ) → slot_at app m i ≡ Some l → l < length app.locks
 unfolding slot_at
 slot_below app m i l is = by (is_object_access (ins_at app m i)) is
   where
@@ -73,12 +73,16 @@ act_stores app m i (ins.StaticGet op to field) l is = let none = reads_none to (
 act_stores app m i (ins.StaticPut op value field) l is = sym (writes_slot value (slot_at app m i) Never) ∙ is
 act_stores app m i _ l is = cc
 
-pub stored_below : (x : SubjectParts) (m i from : ℕ) (l : LockNo) (when : Throws) → act_at x.app m i ≡ Some (WriteSlot from l when) → l.0 < slot_count x
-unfolding act_at slot_count
-stored_below x m i from l when is = by (ins_at x.app m i) is
+pub act_stored_below : (app : AppParts) (m i from : ℕ) (l : LockNo) (when : Throws) → act_at app m i ≡ Some (WriteSlot from l when) → l.0 < length app.locks
+unfolding act_at
+act_stored_below app m i from l when is = by (ins_at app m i) is
   where
-    by : (o : Option Ins) → act_by x.app m i o ≡ Some (WriteSlot from l when) → l.0 < length x.app.locks
+    by : (o : Option Ins) → act_by app m i o ≡ Some (WriteSlot from l when) → l.0 < length app.locks
     by None is = cc
     by (Some own) is =
-        let same : act_of x.app m i own ≡ WriteSlot from l when = cc in
-        slot_below x.app m i l.0 (act_stores x.app m i own l.0 (ap stored_slot same))
+        let same : act_of app m i own ≡ WriteSlot from l when = cc in
+        slot_below app m i l.0 (act_stores app m i own l.0 (ap stored_slot same))
+
+pub stored_below : (x : SubjectParts) (m i from : ℕ) (l : LockNo) (when : Throws) → act_at x.app m i ≡ Some (WriteSlot from l when) → l.0 < slot_count x
+unfolding slot_count
+stored_below x m i from l when is = act_stored_below x.app m i from l when is

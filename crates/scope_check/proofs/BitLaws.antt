@@ -1,0 +1,27 @@
+-- Sets of lock fields, joined.
+use Rattle.std.proofs.Common.{◌≡◌, ℕ, ◌+◌, ◌<◌, ◌≤◌, refl, sym, subst, ⊎_elim, arith, bit_or}
+use Rattle.std.specs.Prelude.{◌⊎◌, ◌↔◌}
+use Rattle.std.specs.Int.{bit_at}
+use Rattle.std.proofs.lemmas.Bool.{cases_lt}
+use Rattle.std.proofs.lemmas.Nat.Bits.{bit_at-zero}
+use Rattle.call_reach.proofs.Bits.{or_bit, or_left, or_right}
+use Rattle.scope_check.specs.Bits.{Tells, HoldsBelow}
+
+pub no_bit_told : (l : ℕ) → bit_at 0 l ≡ 1 → ⊥
+no_bit_told l e = let z = bit_at-zero l in omega arith
+
+pub none_below : (P : (i l : ℕ) → Type 0) → Tells 0 (HoldsBelow 0 P)
+none_below P l within = ((λ e. absurd (no_bit_told l e)), λ h. absurd (omega (arith, h.1)))
+
+pub one_more_below : (P : (i l : ℕ) → Type 0) (n mask bits : ℕ) → Tells mask (HoldsBelow n P) → Tells bits (P n) → Tells (bit_or mask bits) (HoldsBelow (n + 1) P)
+one_more_below P n mask bits before this l within = (
+  λ e. ⊎_elim (λ old. (let h : HoldsBelow n P l = (before l within).0 old in (h.0, omega (arith, h.1), h.2))) (λ new. (n, omega arith, (this l within).0 new)) (or_bit mask bits l e),
+  λ h. ⊎_elim
+      (λ less. or_left mask bits l ((before l within).1 (h.0, less, h.2)))
+      (λ le. or_right mask bits l ((this l within).1 (let is : h.0 ≡ n = omega (arith, le, h.1) in subst (λ (k : ℕ). P k l) is h.2)))
+      (cases_lt h.0 n),
+)
+
+-- the same set told otherwise
+pub told_as : (P Q : ℕ → Type 0) (mask : ℕ) → ((l : ℕ) → l < 64 → P l ↔ Q l) → Tells mask P → Tells mask Q
+told_as P Q mask same told l within = ((λ e. (same l within).0 ((told l within).0 e)), λ q. (told l within).1 ((same l within).1 q))

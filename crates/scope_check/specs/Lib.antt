@@ -1,0 +1,4 @@
+pub mod Bits
+pub mod Cases
+pub mod Texts
+pub mod Fields
