@@ -1,5 +1,5 @@
 -- Sets of lock fields, joined.
-use Rattle.std.proofs.Common.{◌≡◌, ℕ, ◌+◌, ◌<◌, ◌≤◌, refl, sym, subst, ⊎_elim, arith, bit_or}
+use Rattle.std.proofs.Common.{◌≡◌, ℕ, Bool, true, ◌+◌, ◌<◌, ◌≤◌, refl, sym, subst, ⊎_elim, arith, bit_or}
 use Rattle.std.specs.Prelude.{◌⊎◌, ◌↔◌}
 use Rattle.std.specs.Int.{bit_at}
 use Rattle.std.proofs.lemmas.Bool.{cases_lt}
@@ -25,3 +25,14 @@ one_more_below P n mask bits before this l within = (
 -- the same set told otherwise
 pub told_as : (P Q : ℕ → Type 0) (mask : ℕ) → ((l : ℕ) → l < 64 → P l ↔ Q l) → Tells mask P → Tells mask Q
 told_as P Q mask same told l within = ((λ e. (same l within).0 ((told l within).0 e)), λ q. (told l within).1 ((same l within).1 q))
+
+-- ---- a lock field after another
+abbrev pub At : (ℕ → Type 0) → (i l : ℕ) → Type 0
+At P i l = P i × (i ≡ l)
+
+pub one_lock_more : (P : ℕ → Type 0) (n mask bits : ℕ) (test : Bool) → Tells mask (HoldsBelow n (At P)) → Tells bits (λ l. (test ≡ true) × (n ≡ l)) → ((test ≡ true) ↔ P n) → Tells (bit_or mask bits) (HoldsBelow (n + 1) (At P))
+one_lock_more P n mask bits test before this is =
+    one_more_below (At P) n mask bits before (told_as (λ l. (test ≡ true) × (n ≡ l)) (At P n) bits (λ l within. ((λ h. (is.0 h.0, h.1)), λ h. (is.1 h.0, h.1))) this)
+
+pub all_locks : (P : ℕ → Type 0) (n mask : ℕ) → ((l : ℕ) → P l → l < n) → Tells mask (HoldsBelow n (At P)) → Tells mask P
+all_locks P n mask low told = told_as (HoldsBelow n (At P)) P mask (λ l within. ((λ h. subst P h.2.1 h.2.0), λ p. (l, low l p, (p, refl)))) told

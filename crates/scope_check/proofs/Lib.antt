@@ -1,1 +1,17 @@
+pub mod AnswerLaws
 pub mod BitLaws
+pub mod CalledLaws
+pub mod Callees
+pub mod Complete
+pub mod Entries
+pub mod FieldLaws
+pub mod FoundLaws
+pub mod Heads
+pub mod Known
+pub mod Rows
+pub mod Sound
+pub mod Steps
+pub mod SubjectLaws
+pub mod ThreadLaws
+pub mod Touching
+pub mod Within

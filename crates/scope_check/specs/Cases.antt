@@ -6,6 +6,7 @@ use Rattle.flow_model.specs.Breaks.{Candidate}
 use Rattle.flow_model.specs.TagFlow.{IsTagTableOf}
 
 pub record IsCase (x : Candidate) : Type 0 where
+  pub sound : IsSoundApp x.app
   pub list : BelongsTo x.app x.list
   pub graph : IsCallGraph x.app x.graph
   pub tags : IsTagTableOf x.app x.graph x.list x.tags

@@ -1,10 +1,11 @@
 -- What the rules ask of the text of a type, and of a name, by number.
-use Rattle.std.specs.Prelude.{ℕ, ◌≡◌, ◌<◌, ◌×◌, ◌||◌, List, [], ◌∷◌, length, Some, bytes_eq, codes, slice_get, true}
+use Rattle.std.specs.Prelude.{ℕ, ◌≡◌, ◌<◌, ◌||◌, List, [], ◌∷◌, length, Some, bytes_eq, codes, slice_get, true, Bool, Contains}
 use Rattle.std.specs.List.{list_any}
+use Rattle.ns_base.specs.declared.rows.TypeNo.{TypeNo}
 use Rattle.app_model.specs.declared.rows.FieldRow.{FieldRow}
 use Rattle.app_model.specs.Names.{name_text, type_text}
 use Rattle.app_model.specs.Parts.{AppParts}
-use Rattle.flow_model.specs.Breaks.{begins_with, class_initialiser, field_of_lock, initialiser, is_callback_name, is_thread, is_type_below, loader_names}
+use Rattle.flow_model.specs.Breaks.{begins_with, class_initialiser, field_of_lock, initialiser, is_callback_name, is_thread, is_type_below, loader_names, thread_names}
 use Rattle.scope_check.specs.declared.kinds.KindRow.{KindRow}
 use Rattle.scope_check.specs.declared.names.NameRow.{NameRow}
 use Rattle.scope_check.specs.Bits.{Tells}
@@ -44,6 +45,3 @@ is_thread_name name = list_any (bytes_eq name) thread_names
 pub record AreThreads (app : AppParts) (n : ℕ) (threads : List TypeNo) : Type 0 where
   pub only : (t : TypeNo) → Contains threads t → (t.0 < n) × (is_thread_name (type_text app t.0) ≡ true)
   pub all : (t : ℕ) → t < n → is_thread_name (type_text app t) ≡ true → Contains threads (record { 0 = t })
-
-abbrev pub IsBelowAt : AppParts → (t i l : ℕ) → Type 0
-IsBelowAt app t i l = (i ≡ l) × IsBelowLock app t l

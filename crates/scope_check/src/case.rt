@@ -1,5 +1,6 @@
 //! What is looked at.
-ghost use Rattle.std.specs.Prelude.{◌≡◌, IfOk};
+ghost use Rattle.std.specs.Prelude.{◌≡◌, ◌++◌, IfOk, Option, filter_map};
+ghost use Rattle.ns_base.specs.declared.rows.MethodNo.{MethodNo};
 ghost use Rattle.app_model.specs.Components.{entries_of};
 ghost use Rattle.scope_check.specs.Cases.{IsCase};
 
@@ -44,7 +45,8 @@ impl Case {
         let rows = self.list.rows.as_slice();
         let mut entries = Vec::new(alloc);
         for c in 0..rows.len() {
-            push_methods(&mut entries, &rows[c].methods)?;
+            let row = &rows[c];
+            push_methods(&mut entries, &row.methods)?;
         }
         Ok(entries)
     }
@@ -52,7 +54,7 @@ impl Case {
 
 // The methods that a component has.
 fn push_methods(entries: &mut Vec<MethodNo>, methods: &[Option<MethodNo>]) -> Result<(), AllocError>
-    ensures { IfOk result (λ done. entries.new.items ≡ entries.old.items ++ filter_map (λ m. m) methods.now) }
+    ensures { IfOk result (λ done. entries.new.items ≡ entries.old.items ++ filter_map (λ (m : Option MethodNo). m) methods.now) }
 {
     for k in 0..methods.len() {
         if let Some(method) = methods[k] {

@@ -1,5 +1,5 @@
 //! What the rules ask of each type.
-ghost use Rattle.std.specs.Prelude.{◌≡◌, ◌<◌, IfOk, length, true, Some};
+ghost use Rattle.std.specs.Prelude.{◌≡◌, ◌||◌, ◌↔◌, IfOk, length, true, bytes_eq, codes, slice_get};
 ghost use Rattle.std.specs.List.{list_any};
 ghost use Rattle.ns_base.specs.declared.rows.TypeNo.{TypeNo};
 ghost use Rattle.app_model.specs.Hierarchy.{is_sub};
@@ -7,13 +7,13 @@ ghost use Rattle.app_model.specs.Names.{type_text};
 ghost use Rattle.class_graph.specs.Belongs.{IsClassGraph};
 ghost use Rattle.flow_model.specs.Breaks as breaks;
 ghost use Rattle.scope_check.specs.Bits.{Tells, HoldsBelow};
-ghost use Rattle.scope_check.specs.Texts.{AreKinds, IsKind, AreThreads, IsBelowAt, IsBelowLock, is_thread_name};
+ghost use Rattle.scope_check.specs.Texts.{AreKinds, IsKind, AreThreads, IsBelowLock, is_thread_name};
 
 use crate::bits::bit_if;
-use crate::fields::field_of_lock;
+use crate::fields::{field_of_lock, lock_count};
 use app_model::App;
 use class_graph::ClassGraph;
-use ns_base::{LockNo, TypeNo};
+use ns_base::{ClassNo, LockNo, TypeNo};
 use std::alloc::{AllocError, Global};
 
 /// What a type is: System, Class, a type whose methods reflect or load, Executors, or a thread or below one. `above`
@@ -83,23 +83,31 @@ fn is_reflective(text: &[u8]) -> bool
         || text == b"Ldalvik/system/PathClassLoader;".as_slice()
 }
 
-// Whether the class of a lock field is a type, or stands above it.
+// Whether a class is a type, or stands above it.
+fn is_type_below(app: &App, classes: &ClassGraph, kind: TypeNo, class: ClassNo) -> bool
+    requires { IsClassGraph app.now classes.now }
+    ensures { result ≡ breaks.is_type_below app.now kind.0 (slice_get app.now.classes class.0) }
+{
+    class.0 < app.class_count() && classes.is_sub(kind, app.class(class).name)
+}
+
+// The same of the class of a lock field.
 fn is_below(app: &App, classes: &ClassGraph, kind: TypeNo, lock: LockNo) -> bool
-    requires classes { IsClassGraph app.now classes.now }
-    requires lock { lock.0 < length app.now.locks }
+    requires { IsClassGraph app.now classes.now }
     ensures { (result ≡ true) ↔ IsBelowLock app.now kind.0 lock.0 }
 {
-    app.told();
-    let field = field_of_lock(app, lock);
-    classes.is_sub(kind, app.class(field.class).name)
+    match field_of_lock(app, lock) {
+        Some(field) => is_type_below(app, classes, kind, field.class),
+        None => false,
+    }
 }
 
 fn above_of(app: &App, classes: &ClassGraph, kind: TypeNo) -> u64
     requires classes { IsClassGraph app.now classes.now }
-    ensures { Tells result (HoldsBelow (length app.now.locks) (IsBelowAt app.now kind.0)) }
+    ensures { Tells result (IsBelowLock app.now kind.0) }
 {
     let mut above = 0;
-    for l in 0..app.locks().len() as u32 {
+    for l in 0..lock_count(app) {
         above |= bit_if(is_below(app, classes, kind, LockNo(l)), LockNo(l));
     }
     above

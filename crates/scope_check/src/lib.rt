@@ -5,8 +5,18 @@
 //! - `bits` has sets of lock fields, `fields` what is known of each lock field before the rules are looked at.
 #![tactic(auto)]
 
+mod answers;
 mod bits;
 mod case;
 mod fields;
+mod found;
 mod kinds;
+mod lock_code;
 mod names;
+mod owners;
+mod pass;
+mod rules;
+mod scoping;
+mod survey;
+
+pub use scoping::{ScopeFault, scope};

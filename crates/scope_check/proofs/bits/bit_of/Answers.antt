@@ -1,4 +1,4 @@
-use Rattle.call_reach.proofs.Assigned.{no_bit, one_bit}
+use Rattle.call_reach.proofs.Assigned.{one_bit}
 use Rattle.scope_check.proofs.bits.bit_of.Goals as goal
 
 pub returns-then-lock-lt64 : goal.returns-then-lock-lt64

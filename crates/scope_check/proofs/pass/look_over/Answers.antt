@@ -1,0 +1,7 @@
+use Rattle.std.proofs.Common.{subst, sym, ap, Some, ◌∙◌}
+use Rattle.scope_check.proofs.Heads.{heads_sound}
+use Rattle.scope_check.proofs.Steps.{head_step}
+use Rattle.scope_check.proofs.pass.look_over.Goals as goal
+
+pub returns : goal.returns
+returns c = λ before. c.look_in.ensures _ (head_step c.args.survey.now c.args.method.0 c.args.pass c.keep-kept.result before ? (heads_sound c.args.survey.now c.told.ensures c.told-2.ensures c.args.method.0 c.requires.method))
