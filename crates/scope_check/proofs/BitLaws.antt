@@ -1,5 +1,5 @@
 -- Sets of lock fields, joined.
-use Rattle.std.proofs.Common.{◌≡◌, ℕ, Bool, true, ◌+◌, ◌<◌, ◌≤◌, refl, sym, subst, ⊎_elim, arith, bit_or}
+use Rattle.std.proofs.Common.{◌≡◌, ℕ, Bool, true, ◌+◌, ◌<◌, refl, ap, subst, ⊎_elim, inl, inr, arith, bit_or, Option, Some}
 use Rattle.std.specs.Prelude.{◌⊎◌, ◌↔◌}
 use Rattle.std.specs.Int.{bit_at}
 use Rattle.std.proofs.lemmas.Bool.{cases_lt}
@@ -36,3 +36,10 @@ one_lock_more P n mask bits test before this is =
 
 pub all_locks : (P : ℕ → Type 0) (n mask : ℕ) → ((l : ℕ) → P l → l < n) → Tells mask (HoldsBelow n (At P)) → Tells mask P
 all_locks P n mask low told = told_as (HoldsBelow n (At P)) P mask (λ l within. ((λ h. subst P h.2.1 h.2.0), λ p. (l, low l p, (p, refl)))) told
+
+-- one more lock field
+pub with_bit : (stored bit k : ℕ) → Tells bit (λ l. k ≡ l) → (l : ℕ) → l < 64 → (bit_at (bit_or stored bit) l ≡ 1) ↔ ((bit_at stored l ≡ 1) ⊎ (◌≡◌ {A = Option ℕ} (Some k) (Some l)))
+with_bit stored bit k this l within = (
+  λ e. ⊎_elim inl (λ new. inr (ap Some ((this l within).0 new))) (or_bit stored bit l e),
+  λ h. ⊎_elim (or_left stored bit l) (λ is. or_right stored bit l ((this l within).1 (let same : k ≡ l = cc in same))) h,
+)

@@ -1,8 +1,8 @@
 -- What calls find is not abstract.
-use Rattle.std.proofs.Common.{◌≡◌, ℕ, zero, suc, ◌+◌, ◌<◌, ◌≤◌, ◌&&◌, ◌==◌, ◌∷◌, ◌++◌, [], Bool, true, false, if◌then◌else◌, not, List, length, get_or, map, refl, sym, ap, ◌∙◌, subst, ⊎_elim, inl, inr, arith, Contains, Option, Some, None, is_none, slice_get, bit_and, bit_or, eqb-true, eq-eqb}
+use Rattle.std.proofs.Common.{◌≡◌, ℕ, ◌&&◌, ◌==◌, ◌∷◌, ◌++◌, [], Bool, true, false, if◌then◌else◌, not, List, length, get_or, map, refl, sym, ap, ◌∙◌, subst, ⊎_elim, arith, Contains, Option, Some, None, is_none, slice_get, bit_and, bit_or, eqb-true, eq-eqb}
 use Rattle.std.specs.Prelude.{filter}
 use Rattle.std.specs.Int.{bit_at}
-use Rattle.std.specs.List.{list_any, range_with_len}
+use Rattle.std.specs.List.{range_with_len}
 use Rattle.std.proofs.lemmas.Bool.{true≢false}
 use Rattle.std.proofs.lemmas.List.Elements.{Contains-append_cases}
 use Rattle.std.proofs.lemmas.List.Quantifiers.{position-Some}
@@ -17,12 +17,12 @@ use Rattle.app_model.specs.declared.calls.By.TheVariants.{Virtual, Super, Direct
 use Rattle.app_model.specs.declared.rows.MethodRow.{MethodRow}
 use Rattle.app_model.specs.declared.rows.Named.{Named}
 use Rattle.app_model.specs.CallGraph.{GraphParts, callees_at}
-use Rattle.app_model.specs.Components.{BelongsTo, ComponentParts, callback_at, callback_method, callbacks_of, method_of, name_number, proto_number, prototypes_of}
+use Rattle.app_model.specs.Components.{BelongsTo, ComponentParts, IsListed, callback_at, callback_method, callbacks_of, method_of, name_number, proto_number, prototypes_of}
 use Rattle.app_model.specs.Components as components
 use Rattle.app_model.specs.Hierarchy.{class_of_type, is_abstract, line_of, lookup_of, method_in, nearest, or_else}
 use Rattle.app_model.specs.LockUse.{invoke_of}
 use Rattle.app_model.specs.Parts.{AppParts, ClassParts}
-use Rattle.app_model.specs.Targets.{IsCallGraph, call_by, finds, found_above, found_by, found_of, found_on, found_virtually, is_foreign, is_method, may_receive, method_no, row_of, super_of, targets_by, targets_in, targets_of_call}
+use Rattle.app_model.specs.Targets.{IsCallGraph, call_by, finds, found_above, found_by, found_of, found_on, is_foreign, is_method, may_receive, method_no, row_of, super_of, targets_by, targets_in, targets_of_call}
 use Rattle.app_model.specs.Words.{ins_at, named_at}
 use Rattle.class_graph.proofs.Lists.{any_found, there_at}
 use Rattle.std.specs.Option.{option_and_then}
@@ -38,21 +38,29 @@ pub record IsConcrete (app : AppParts) (n : ℕ) : Type 0 where
 
 nearest_found : (found : ℕ → Option ℕ) (above : List ℕ) (n : ℕ) → nearest found above ≡ Some n → (c : ℕ) × (found c ≡ Some n)
 nearest_found found [] n is = cc
-nearest_found found (c ∷ above) n is = go (found c) refl is
+nearest_found found (c ∷ above) n is = go (nearest_found found above n) (found c) refl is
   where
-    go : (o : Option ℕ) → found c ≡ o → or_else o (nearest found above) ≡ Some n → (c : ℕ) × (found c ≡ Some n)
-    go None here more = nearest_found found above n more
-    go (Some k) here one = (c, here ∙ one)
+    go : (nearest found above ≡ Some n → (c : ℕ) × (found c ≡ Some n)) → (o : Option ℕ) → found c ≡ o → or_else o (nearest found above) ≡ Some n → (c : ℕ) × (found c ≡ Some n)
+    go rest None here more = rest more
+    go rest (Some k) here one = (c, here ∙ one)
 
 blank : MethodRow
 blank = record { class = record { 0 = 0 }; name = record { 0 = 0 }; proto = record { 0 = 0 }; flags = 0; registers = 0; ins = 0 }
+
+last : (a b c d : Bool) → (a && (b && (c && d))) ≡ true → d ≡ true
+last a b c d is = (both c d (both b (c && d) (both a (b && (c && d)) is).1).1).1
 
 lookup_concrete : (app : AppParts) (t name proto n : ℕ) → lookup_of app t name proto ≡ Some n → IsConcrete app n
 unfolding lookup_of method_in
 lookup_concrete app t name proto n is =
     let in_class = nearest_found (method_in app name proto) (line_of app.classes t) n is in
     let p = position-Some _ app.methods n blank in_class.1 in
-    record { row = get_or app.methods n blank; there = slice_get-get_or app.methods n blank p.0; concrete = not_false _ (both _ _ (both _ _ (both _ _ p.1).1).1).1 }
+    let row : MethodRow = get_or app.methods n blank in
+    record {
+      row = row;
+      there = slice_get-get_or app.methods n blank p.0;
+      concrete = not_false (is_abstract row.flags) (last (row.class.0 == in_class.0) (row.name.0 == name) (row.proto.0 == proto) (not (is_abstract row.flags)) p.1);
+    }
 
 -- ---- what a call finds
 abbrev AllConcrete : AppParts → List (Option ℕ) → Type 0
@@ -100,14 +108,14 @@ found_concrete app m op named = if_concrete app (is_foreign app op named) (None 
 -- ---- the callees of a row
 passing : (p : ℕ → Bool) (ns : List ℕ) (n : MethodNo) → Contains (map method_no (filter p ns)) n → p n.0 ≡ true
 passing p [] n among = absurd (omega (arith, among.1))
-passing p (k ∷ ns) n among = go (p k) refl among
+passing p (k ∷ ns) n among = go (passing p ns n) (p k) refl among
   where
-    go : (b : Bool) → p k ≡ b → Contains (map method_no (if b then k ∷ filter p ns else filter p ns)) n → p n.0 ≡ true
-    go false is more = passing p ns n more
-    go true is more = ⊎_elim
+    go : (Contains (map method_no (filter p ns)) n → p n.0 ≡ true) → (b : Bool) → p k ≡ b → Contains (map method_no (if b then k ∷ filter p ns else filter p ns)) n → p n.0 ≡ true
+    go rest_of false is more = rest_of more
+    go rest_of true is more = ⊎_elim
         (λ here. (let at : here.0 ≡ 0 = omega (arith, here.1) in
           let same : method_no k ≡ n = sym (ap (λ (j : ℕ). get_or (method_no k ∷ []) j n) at) ∙ here.2 in subst (λ (q : MethodNo). p q.0 ≡ true) same is))
-        (λ rest. passing p ns n rest)
+        rest_of
         (Contains-append_cases (method_no k ∷ []) (map method_no (filter p ns)) n more)
 
 is_that : (n : ℕ) (o : Option ℕ) → is_method n o ≡ true → o ≡ Some n
@@ -145,7 +153,7 @@ callback_concrete app list c k m belongs is = go (slice_get list c) refl is
     go : (row : Option ComponentParts) → slice_get list c ≡ row → method_of row k ≡ Some m → IsConcrete app m
     go None at none = cc
     go (Some component) at some =
-        let listed = All-contains _ list component belongs.each (there_at list c component at) in
+        let listed = All-contains (IsListed app) list component belongs.each (there_at list c component at) in
         found_on_concrete app (slice_get app.classes component.class.0) (option_and_then (name_number app) (slice_get (callbacks_of component.kind) k)) (option_and_then (proto_number app) (slice_get (prototypes_of component.kind) k)) m (sym (listed.methods k) ∙ some)
 
 -- ---- neither abstract nor native

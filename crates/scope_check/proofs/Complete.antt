@@ -24,7 +24,7 @@ use Rattle.scope_check.specs.Founds.{Covers, IsFound}
 use Rattle.scope_check.specs.LockCode.{is_other}
 use Rattle.scope_check.specs.Passing.{IsFirst, IsPass}
 use Rattle.scope_check.specs.Surveys.{IsSurvey, SurveyParts, is_marked}
-use Rattle.scope_check.specs.Tests.{differ, head_tests, is_entry, is_hosted, is_unfit, reached_tests, tests_at, unreached_tests}
+use Rattle.scope_check.specs.Tests.{differ, head_tests, is_entry, is_hosted, is_unfit, makes_thread, reached_tests, tests_at, unreached_tests}
 use Rattle.scope_check.proofs.Entries.{callback_there}
 use Rattle.scope_check.proofs.FieldLaws.{field_below}
 use Rattle.scope_check.proofs.Known.{entered, entered_within, marked, static_known, told_in_mask}
@@ -47,11 +47,11 @@ differs true false ne = refl
 differs false true ne = refl
 differs false false ne = absurd (ne refl)
 
-unmarked : (s : SurveyParts) → IsSurvey s → IsCase s.case → (m : ℕ) → ¬ IsEntered s.case m → is_marked s.reached m ≡ false
-unmarked s inv case m none = go (is_marked s.reached m) refl
+unmarked : (s : SurveyParts) → IsSurvey s → (m : ℕ) → ¬ IsEntered s.case m → is_marked s.reached m ≡ false
+unmarked s inv m none = go (is_marked s.reached m) refl
   where
     go : (b : Bool) → is_marked s.reached m ≡ b → b ≡ false
-    go true is = absurd (none (entered s inv case m is))
+    go true is = absurd (none (entered s inv m is))
     go false is = refl
 
 not_bytes : (a b : List ℕ) → a ≢ b → not (bytes_eq a b) ≡ true
@@ -61,20 +61,20 @@ not_bytes a b ne = go (bytes_eq a b) refl
     go true is = absurd (ne ((bytes_eq-Decides a b).0 is))
     go false is = refl
 
-module _ (s : SurveyParts) (inv : IsSurvey s) (case : IsCase s.case) (pass : Pass) (whole : IsPass s (length s.case.app.methods) (length s.case.app.methods) 0 pass) where
+module _ (s : SurveyParts) (inv : IsSurvey s) (pass : Pass) (whole : IsPass s (length s.case.app.methods) (length s.case.app.methods) 0 pass) where
   abbrev x : Candidate
   x = s.case
 
   -- an instruction that is reached, one that is not, and a method as a whole
   at_reached : (rule m i pc : ℕ) → IsEntered x m → pc_at x.app m i ≡ Some pc → slice_get (reached_tests s m i) rule ≡ Some true → Covers pass.kept rule m pc
   at_reached rule m i pc reached at passed =
-      whole.tests m i rule pc (inl (entered_within s case m reached)) at (subst (λ (tests : List Bool). slice_get tests rule ≡ Some true) (sym (reached_at s m i (marked s inv case m reached))) passed)
+      whole.tests m i rule pc (inl (entered_within s inv.case m reached)) at (subst (λ (tests : List Bool). slice_get tests rule ≡ Some true) (sym (reached_at s m i (marked s inv m reached))) passed)
 
   at_unreached : (m i pc : ℕ) → ¬ IsEntered x m → method_name x.app m ≢ class_initialiser → pc_at x.app m i ≡ Some pc → touches x.app m i ≡ true → Covers pass.kept 8 m pc
   at_unreached m i pc none named at touch =
-      let low = code_within x.app case.sound m i (pc_within x.app m i pc at) in
+      let low = code_within x.app inv.case.sound m i (pc_within x.app m i pc at) in
       let passed : slice_get (unreached_tests s m i) 8 ≡ Some true = ap Some (and_true _ _ (not_bytes (method_name x.app m) class_initialiser named) touch) in
-      whole.tests m i 8 pc (inl low) at (subst (λ (tests : List Bool). slice_get tests 8 ≡ Some true) (sym (unreached_at s m i (unmarked s inv case m none))) passed)
+      whole.tests m i 8 pc (inl low) at (subst (λ (tests : List Bool). slice_get tests 8 ≡ Some true) (sym (unreached_at s m i (unmarked s inv m none))) passed)
 
   -- an access that is unfit
   at_access : (m i pc l : ℕ) (field : FieldRow) → pc_at x.app m i ≡ Some pc → IsAccess x m i l field → (in_lock_mask s.faulty l || differ (is_static_access (ins_at x.app m i)) (in_lock_mask s.statics l)) ≡ true → Covers pass.kept 7 m pc
@@ -82,26 +82,26 @@ module _ (s : SurveyParts) (inv : IsSurvey s) (case : IsCase s.case) (pass : Pas
       at_reached 7 m i pc access.reached at (ap Some (subst (λ (slot : Option ℕ). is_unfit s.faulty s.statics (ins_at x.app m i) slot ≡ true) (sym access.slot) bad))
 
   few : (l : ℕ) (field : FieldRow) → breaks.field_of_lock x.app l ≡ Some field → l < 64
-  few l field is = let low = field_below x.app l field is in omega (arith, low, case.sound.sizes.locks)
+  few l field is = let low = field_below x.app l field is in omega (arith, low, inv.case.sound.sizes.locks)
 
   made_bit : (l : ℕ) (field : FieldRow) → breaks.field_of_lock x.app l ≡ Some field → IsMade x field → in_lock_mask inv.made l ≡ true
   made_bit l field is made =
       told_in_mask inv.made l (few l field is) ((inv.makes l (few l field is)).1 (
-        made.method, entered_within s case made.method made.reached, (marked s inv case made.method made.reached,
+        made.method, entered_within s inv.case made.method made.reached, (marked s inv made.method made.reached,
         (made.index, made_within x.app made.method made.index made.kind made.makes, (made.kind, made.makes, (field, is, made.below)))),
       ))
 
   locks_bit : (m n i : ℕ) → m < length x.app.methods → IsBelow x m n → is_lock_ins x.app n i ≡ true → (bit_at (slice_index s.below m) 0 == 1) ≡ true
   locks_bit m n i low below lock =
       let at = lock_within x.app n i lock in
-      let own = (inv.own.each n (code_within x.app case.sound n i at)).locks.1 (below_some (is_lock_ins x.app n) (code_len x.app n) i at lock) in
+      let own = (inv.own.each n (code_within x.app inv.case.sound n i at)).locks.1 (below_some (is_lock_ins x.app n) (code_len x.app n) i at lock) in
       eq-eqb _ 1 ((inv.below.exact m 0 low (omega arith)).1 (n, below, own))
 
   others_bit : (m n i : ℕ) → m < length x.app.methods → IsBelow x m n → touches x.app n i ≡ true → (bit_at (slice_index s.below m) 1 == 1) ≡ true
   others_bit m n i low below touch =
       let b = both _ _ touch in
       let at = lock_within x.app n i b.0 in
-      let own = (inv.own.each n (code_within x.app case.sound n i at)).others.1 (sym (any_other x.app n) ∙ b.1) in
+      let own = (inv.own.each n (code_within x.app inv.case.sound n i at)).others.1 (sym (any_other x.app n) ∙ b.1) in
       eq-eqb _ 1 ((inv.below.exact m 1 low (omega arith)).1 (n, below, own))
 
   has_name : (m : ℕ) (name : List ℕ) → method_name x.app m ≡ name → name ≢ [] → m < length x.app.methods
@@ -115,28 +115,28 @@ module _ (s : SurveyParts) (inv : IsSurvey s) (case : IsCase s.case) (pass : Pas
       at_reached 1 m i pc reached at (ap Some (or_first _ _ (any_there (λ (n : MethodNo). is_native x.app n.0) (callees_at x.graph m i) n among native)))
   covered rule m pc (breaks.loads i reached at is) = at_reached 1 m i pc reached at (ap Some (or_second _ _ is))
   covered rule m pc (breaks.reflective_call i reached at is) = at_reached 2 m i pc reached at (ap Some is)
-  covered rule m pc (breaks.thread_made i t reached at makes thread) = at_reached 3 m i pc reached at (ap Some (or_first _ _ (rw makes thread)))
+  covered rule m pc (breaks.thread_made i t reached at makes thread) = at_reached 3 m i pc reached at (ap Some (or_first _ _ (subst (λ (made : Option ℕ). makes_thread x.app made ≡ true) (sym makes) thread)))
   covered rule m pc (breaks.thread_call i reached at is) = at_reached 3 m i pc reached at (ap Some (or_second _ _ is))
   covered rule m pc (breaks.escape i reached at is) = at_reached 4 m i pc reached at (ap Some is)
   covered rule m pc (breaks.wrong_call i reached at is) = at_reached 5 m i pc reached at (ap Some is)
-  covered rule m pc (breaks.second_store i l n j at here older earlier) = whole.seconds l m i n j pc (inl (entered_within s case m here.reached)) at here older earlier
+  covered rule m pc (breaks.second_store i l n j at here older earlier) = whole.seconds l m i n j pc (inl (entered_within s inv.case m here.reached)) at here older earlier
   covered rule m pc (breaks.unowned {l = l} {field = field} i at access instance other) =
       at_access m i pc l field at access (or_first _ _ (told_in_mask s.faulty l (few l field access.is) ((inv.faulty l (few l field access.is)).1 (field, access.is, instance, inl other))))
   covered rule m pc (breaks.made_by_hand {l = l} {field = field} i at access instance made) =
       at_access m i pc l field at access (or_first _ _ (told_in_mask s.faulty l (few l field access.is) ((inv.faulty l (few l field access.is)).1 (field, access.is, instance, inr (made_bit l field access.is made)))))
   covered rule m pc (breaks.unfit_access {l = l} {field = field} i at access unfit) =
-      at_access m i pc l field at access (or_second _ _ (differs _ _ (λ same. unfit (same ∙ sym (static_known s inv case.sound l field access.is)))))
+      at_access m i pc l field at access (or_second _ _ (differs _ _ (λ same. unfit (same ∙ sym (static_known s inv inv.case.sound l field access.is)))))
   covered rule m pc (breaks.unreached i none named at touch) = at_unreached m i pc none named at touch
   covered rule m pc (breaks.unlisted n i none callback below lock) =
       let low = named_within x.app m (callback_named (method_name x.app m) callback) in
-      whole.whole m 9 low (ap Some (and_true _ _ (ap not (unmarked s inv case m none)) (and_true _ _ callback (locks_bit m n i low below lock))))
+      whole.whole m 9 low (ap Some (and_true _ _ (ap not (unmarked s inv m none)) (and_true _ _ callback (locks_bit m n i low below lock))))
   covered rule m pc (breaks.class_init_touches n i named below touch) =
       let low = has_name m class_initialiser named (λ empty. (let no : length class_initialiser ≡ 0 = ap length empty in omega arith)) in
       whole.whole m 10 low (ap Some (and_true _ _ (others_bit m n i low below touch) (or_first _ _ ((bytes_eq-Decides (method_name x.app m) class_initialiser).1 named))))
   covered rule m pc (breaks.init_touches {method = method} {component = component} n i none named there among inherits_it below touch) =
       let low = slice_get_within x.app.methods m method there in
       let hosted : is_hosted x.app x.list (slice_get x.app.methods m) ≡ true = rw there (any_there (λ (c : ComponentParts). inherits x.app c.class method.class) x.list component among inherits_it) in
-      whole.whole m 10 low (ap Some (and_true _ _ (others_bit m n i low below touch) (or_second _ _ (and_true _ _ ((bytes_eq-Decides (method_name x.app m) initialiser).1 named) (and_true _ _ (ap not (unmarked s inv case m none)) hosted)))))
+      whole.whole m 10 low (ap Some (and_true _ _ (others_bit m n i low below touch) (or_second _ _ (and_true _ _ ((bytes_eq-Decides (method_name x.app m) initialiser).1 named) (and_true _ _ (ap not (unmarked s inv m none)) hosted)))))
 
   pub first_of : IsFirst x pass.kept
   first_of = go pass.kept whole.sound covered

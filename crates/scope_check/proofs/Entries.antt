@@ -7,18 +7,16 @@ use Rattle.std.proofs.lemmas.Bool.{cases_lt, true≢false}
 use Rattle.std.proofs.lemmas.List.{append-nil, get_or_past, take_more}
 use Rattle.std.proofs.lemmas.List.Elements.{All-contains, Contains-get_or, Contains-append_cases, Contains-append_left, Contains-append_right}
 use Rattle.std.proofs.lemmas.List.Quantifiers.{position-Some}
-use Rattle.std.proofs.lemmas.Option.{get_or_from_slice_get, slice_get_within}
 use Rattle.ns_base.specs.declared.rows.MethodNo.{MethodNo}
 use Rattle.app_model.specs.declared.rows.MethodRow.{MethodRow}
 use Rattle.app_model.specs.CallGraph.{FitsCode, GraphParts}
-use Rattle.app_model.specs.Components.{BelongsTo, ComponentParts, callback_at, callback_method, callbacks_of, entries_of, found_on, method_in, method_of, name_number, proto_number, prototypes_of}
+use Rattle.app_model.specs.Components.{BelongsTo, ComponentParts, IsListed, callback_at, callback_method, callbacks_of, entries_of, found_on, method_in, method_of, name_number, proto_number, prototypes_of}
 use Rattle.app_model.specs.Hierarchy.{line_of, lookup_of}
 use Rattle.app_model.specs.Hierarchy as hierarchy
 use Rattle.app_model.specs.Parts.{AppParts, ClassParts}
 use Rattle.app_model.specs.Reach.{IsReached, called, given}
 use Rattle.call_reach.proofs.Adding.{callee_within}
 use Rattle.call_reach.proofs.Reached.{set_by_callee}
-use Rattle.call_reach.specs.Starts.{AreReached}
 use Rattle.class_graph.proofs.Lists.{there_at}
 use Rattle.flow_model.proofs.Slots.{nearest_below}
 use Rattle.scope_check.specs.Surveys.{is_marked}
@@ -109,7 +107,7 @@ callback_below app list c k m belongs is = go (slice_get list c) refl is
     go : (row : Option ComponentParts) → slice_get list c ≡ row → method_of row k ≡ Some m → m < length app.methods
     go None at none = cc
     go (Some component) at some =
-        let listed = All-contains _ list component belongs.each (there_at list c component at) in
+        let listed = All-contains (IsListed app) list component belongs.each (there_at list c component at) in
         found_below app (slice_get app.classes component.class.0) (option_and_then (name_number app) (slice_get (callbacks_of component.kind) k)) (option_and_then (proto_number app) (slice_get (prototypes_of component.kind) k)) m (sym (listed.methods k) ∙ some)
 
 pub entries_within : (app : AppParts) (list : List ComponentParts) → BelongsTo app list → All (λ (m : MethodNo). m.0 < length app.methods) (entries_of list)

@@ -18,26 +18,26 @@ before_said : (a b : Found) → comes_before a b ≡ true → NotAfter a b
 before_said a b is = go (a.rule == b.rule) refl is
   where
     in_rule : a.rule ≡ b.rule → (e : Bool) → (a.method.0 == b.method.0) ≡ e → (if e then nat_le a.pc b.pc else nat_lt a.method.0 b.method.0) ≡ true → NotAfter a b
-    in_rule rule true same yes = inr (rule, inr (eqb-true _ _ same, yes))
-    in_rule rule false other yes = inr (rule, inl (ltb-true _ _ yes))
+    in_rule rule true same holds = inr (rule, inr (eqb-true _ _ same, holds))
+    in_rule rule false other holds = inr (rule, inl (ltb-true _ _ holds))
 
     go : (e : Bool) → (a.rule == b.rule) ≡ e → (if e then (if a.method.0 == b.method.0 then nat_le a.pc b.pc else nat_lt a.method.0 b.method.0) else nat_lt a.rule b.rule) ≡ true → NotAfter a b
-    go true same yes = in_rule (eqb-true _ _ same) (a.method.0 == b.method.0) refl yes
-    go false other yes = inl (ltb-true _ _ yes)
+    go true same holds = in_rule (eqb-true _ _ same) (a.method.0 == b.method.0) refl holds
+    go false other holds = inl (ltb-true _ _ holds)
 
 less_if_not : (a b : ℕ) → (a == b) ≡ false → nat_lt a b ≡ false → b < a
-less_if_not a b other no = ⊎_elim (λ lt. lt) (λ le. ⊎_elim (λ same. absurd (true≢false (sym (eq-eqb a b same) ∙ other))) (λ ne. absurd (true≢false (sym (lt-ltb a b (omega (arith, le, ne))) ∙ no))) (cases_eq a b)) (cases_lt b a)
+less_if_not a b other fails = ⊎_elim (λ lt. lt) (λ le. ⊎_elim (λ same. absurd (true≢false (sym (eq-eqb a b same) ∙ other))) (λ ne. absurd (true≢false (sym (lt-ltb a b (omega (arith, le, ne))) ∙ fails))) (cases_eq a b)) (cases_lt b a)
 
 after_said : (a b : Found) → comes_before a b ≡ false → NotAfter b a
 after_said a b is = go (a.rule == b.rule) refl is
   where
     in_rule : a.rule ≡ b.rule → (e : Bool) → (a.method.0 == b.method.0) ≡ e → (if e then nat_le a.pc b.pc else nat_lt a.method.0 b.method.0) ≡ false → NotAfter b a
-    in_rule rule true same no = inr (sym rule, inr (sym (eqb-true _ _ same), pcs_said a.pc b.pc no))
-    in_rule rule false other no = inr (sym rule, inl (less_if_not a.method.0 b.method.0 other no))
+    in_rule rule true same fails = inr (sym rule, inr (sym (eqb-true _ _ same), pcs_said a.pc b.pc fails))
+    in_rule rule false other fails = inr (sym rule, inl (less_if_not a.method.0 b.method.0 other fails))
 
     go : (e : Bool) → (a.rule == b.rule) ≡ e → (if e then (if a.method.0 == b.method.0 then nat_le a.pc b.pc else nat_lt a.method.0 b.method.0) else nat_lt a.rule b.rule) ≡ false → NotAfter b a
-    go true same no = in_rule (eqb-true _ _ same) (a.method.0 == b.method.0) refl no
-    go false other no = inl (less_if_not a.rule b.rule other no)
+    go true same fails = in_rule (eqb-true _ _ same) (a.method.0 == b.method.0) refl fails
+    go false other fails = inl (less_if_not a.rule b.rule other fails)
 
 pub not_after_on : (a m c r n p s o q : ℕ) → IsNotAfter a m c r n p → IsNotAfter r n p s o q → IsNotAfter a m c s o q
 not_after_on a m c r n p s o q first second = ⊎_elim

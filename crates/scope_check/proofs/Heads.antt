@@ -1,20 +1,18 @@
 -- Methods as a whole: where a test is passed its rule is broken.
-use Rattle.std.proofs.Common.{◌≡◌, ◌≢◌, ℕ, zero, suc, ◌<◌, ◌≤◌, ◌&&◌, ◌||◌, ◌==◌, ◌∷◌, [], Bool, true, false, not, List, length, refl, sym, ap, ◌∙◌, subst, ⊎_elim, arith, bytes_eq, Contains, Option, Some, None, slice_get, slice_index, eqb-true, eq-eqb}
+use Rattle.std.proofs.Common.{◌≡◌, ℕ, zero, suc, ◌<◌, ◌==◌, true, not, List, length, refl, sym, ap, ◌∙◌, subst, ⊎_elim, arith, Contains, Option, Some, None, slice_get, slice_index, eqb-true}
 use Rattle.std.specs.Int.{bit_at}
-use Rattle.std.specs.List.{list_any}
 use Rattle.std.proofs.lemmas.Bool.{cases_lt, true≢false}
 use Rattle.std.proofs.lemmas.List.{get_or_past}
 use Rattle.std.proofs.lemmas.Slice.Eq.{bytes_eq-Decides}
 use Rattle.ns_base.specs.declared.rows.MethodNo.{MethodNo}
 use Rattle.app_model.specs.declared.rows.MethodRow.{MethodRow}
-use Rattle.app_model.specs.Components.{ComponentParts, callback_at, entries_of}
+use Rattle.app_model.specs.Components.{ComponentParts}
 use Rattle.app_model.specs.Words.{code_len}
 use Rattle.call_reach.specs.Spread.{Has}
 use Rattle.class_graph.proofs.Lists.{any_found}
 use Rattle.flow_model.specs.Breaks.{Breaks, Candidate, IsBelow, IsEntered, class_initialiser, inherits, initialiser, initialises, is_callback_name, is_lock_ins, is_native, method_name, touches}
 use Rattle.flow_model.specs.Breaks as breaks
 use Rattle.flow_model.proofs.TestLaws.{some_below}
-use Rattle.scope_check.specs.Cases.{IsCase}
 use Rattle.scope_check.specs.LockCode.{is_other}
 use Rattle.scope_check.specs.Surveys.{IsSurvey, SurveyParts, is_marked}
 use Rattle.scope_check.specs.Tests.{head_tests, is_entry, is_hosted, is_initialiser, is_unlisted}
@@ -29,12 +27,12 @@ use Rattle.scope_check.proofs.Touching.{any_other}
 pub has_within : (words : List ℕ) (n b : ℕ) → Has words n b → n < length words
 has_within words n b h = ⊎_elim (λ lt. lt) (λ past. absurd (no_bit_told b (subst (λ (w : ℕ). bit_at w b ≡ 1) (get_or_past words n 0 past) h))) (cases_lt n (length words))
 
-module _ (s : SurveyParts) (inv : IsSurvey s) (case : IsCase s.case) (m : ℕ) (low : m < length s.case.app.methods) where
+module _ (s : SurveyParts) (inv : IsSurvey s) (m : ℕ) (low : m < length s.case.app.methods) where
   abbrev x : Candidate
   x = s.case
 
   unentered : not (is_marked s.reached m) ≡ true → ¬ IsEntered x m
-  unentered is reached = true≢false (sym (marked s inv case m reached) ∙ not_false _ is)
+  unentered is reached = true≢false (sym (marked s inv m reached) ∙ not_false _ is)
 
   -- what the words of the reach say
   locks_below : bit_at (slice_index s.below m) 0 ≡ 1 → (n : ℕ) × (i : ℕ) × IsBelow x m n × (is_lock_ins x.app n i ≡ true)

@@ -1,7 +1,6 @@
 -- What a survey knows, in the words of the rules.
-use Rattle.std.proofs.Common.{◌≡◌, ℕ, ◌<◌, ◌≤◌, ◌&&◌, ◌==◌, ◌∷◌, [], Bool, true, false, List, length, get_or, refl, sym, ap, ◌∙◌, subst, ⊎_elim, arith, Contains, Option, Some, None, slice_get, nat_lt, eqb-true, eq-eqb}
+use Rattle.std.proofs.Common.{◌≡◌, ℕ, ◌<◌, ◌==◌, true, List, length, get_or, refl, sym, ◌∙◌, subst, arith, Option, Some, None, slice_get, nat_lt, eqb-true, eq-eqb}
 use Rattle.std.specs.Int.{bit_at}
-use Rattle.std.specs.List.{All}
 use Rattle.std.proofs.lemmas.Bool.{lt-ltb, ltb-true, true≢false}
 use Rattle.std.proofs.lemmas.Option.{slice_get-get_or, slice_get_within}
 use Rattle.ns_base.specs.declared.rows.FieldNo.{FieldNo}
@@ -22,7 +21,6 @@ use Rattle.app_model.specs.Sound.{IsSoundApp}
 use Rattle.class_graph.proofs.Lists.{same_test}
 use Rattle.flow_model.specs.Breaks.{IsEntered, field_of_lock, is_static_field}
 use Rattle.scope_check.specs.Cases.{IsCase}
-use Rattle.scope_check.specs.Fields.{IsStatic}
 use Rattle.scope_check.specs.Surveys.{IsSurvey, SurveyParts, is_marked}
 use Rattle.scope_check.proofs.Entries.{entries_within, marked_within, reached_within}
 use Rattle.scope_check.proofs.FieldLaws.{field_below}
@@ -39,11 +37,11 @@ told_in_mask mask l low is = and_true (nat_lt l 64) (bit_at mask l == 1) (lt-ltb
 pub entered_within : (s : SurveyParts) → IsCase s.case → (m : ℕ) → IsEntered s.case m → m < length s.case.app.methods
 entered_within s case m reached = reached_within s.case.app s.case.graph case.graph.fits (entries_of s.case.list) (entries_within s.case.app s.case.list case.list) m reached
 
-pub entered : (s : SurveyParts) → IsSurvey s → IsCase s.case → (m : ℕ) → is_marked s.reached m ≡ true → IsEntered s.case m
-entered s inv case m is = (inv.reached.exact m (let low = marked_within s.reached m is in omega (arith, low, inv.reached.len))).0 is
+pub entered : (s : SurveyParts) → IsSurvey s → (m : ℕ) → is_marked s.reached m ≡ true → IsEntered s.case m
+entered s inv m is = (inv.reached.exact m (let low = marked_within s.reached m is in omega (arith, low, inv.reached.len))).0 is
 
-pub marked : (s : SurveyParts) → IsSurvey s → IsCase s.case → (m : ℕ) → IsEntered s.case m → is_marked s.reached m ≡ true
-marked s inv case m reached = (inv.reached.exact m (entered_within s case m reached)).1 reached
+pub marked : (s : SurveyParts) → IsSurvey s → (m : ℕ) → IsEntered s.case m → is_marked s.reached m ≡ true
+marked s inv m reached = (inv.reached.exact m (entered_within s inv.case m reached)).1 reached
 
 -- ---- lock fields
 pub lock_field : (app : AppParts) → IsSoundApp app → (l : ℕ) → l < length app.locks → (field : FieldRow) × (field_of_lock app l ≡ Some field)

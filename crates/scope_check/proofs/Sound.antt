@@ -1,23 +1,17 @@
 -- Where a test is passed its rule is broken.
-use Rattle.std.proofs.Common.{◌≡◌, ◌≢◌, ℕ, zero, suc, ◌<◌, ◌≤◌, ◌&&◌, ◌||◌, ◌==◌, ◌∷◌, [], Bool, true, false, if◌then◌else◌, not, List, length, refl, sym, ap, ◌∙◌, subst, ⊎_elim, inl, inr, arith, bytes_eq, Contains, Option, Some, None, slice_get, slice_index, eqb-true, eq-eqb}
-use Rattle.std.specs.Prelude.{◌⊎◌, ◌↔◌, filter}
-use Rattle.std.specs.Int.{bit_at}
-use Rattle.std.specs.List.{list_any}
+use Rattle.std.proofs.Common.{◌≡◌, ◌≢◌, ℕ, zero, suc, ◌||◌, Bool, true, false, refl, sym, ◌∙◌, subst, ⊎_elim, inl, inr, Option, Some, None, slice_get}
+use Rattle.std.specs.Prelude.{◌⊎◌}
 use Rattle.std.proofs.lemmas.Bool.{true≢false}
 use Rattle.ns_base.specs.declared.rows.MethodNo.{MethodNo}
-use Rattle.dalvik.specs.declared.ins.Ins.{Ins}
 use Rattle.app_model.specs.declared.rows.FieldRow.{FieldRow}
 use Rattle.app_model.specs.CallGraph.{callees_at}
 use Rattle.app_model.specs.Masks.{in_lock_mask}
-use Rattle.app_model.specs.Parts.{AppParts}
 use Rattle.app_model.specs.Slots.{slot_at}
-use Rattle.app_model.specs.Words.{ins_at, named_at, pc_at}
-use Rattle.class_graph.proofs.Lists.{any_found, same_test}
-use Rattle.flow_model.specs.Breaks.{Breaks, Candidate, IsEntered, IsMade, field_of_lock, is_native, is_static_access, is_static_field, is_thread, is_type_below, loads_code, made_type, owner_count, passes_named}
+use Rattle.app_model.specs.Words.{ins_at, pc_at}
+use Rattle.class_graph.proofs.Lists.{any_found}
+use Rattle.flow_model.specs.Breaks.{Breaks, Candidate, IsAccess, IsEntered, IsMade, field_of_lock, is_native, is_static_access, is_static_field, is_thread, is_type_below, loads_code, made_type, owner_count, passes_named}
 use Rattle.flow_model.specs.Breaks as breaks
 use Rattle.flow_model.proofs.Slots.{slot_below}
-use Rattle.scope_check.specs.Bits.{Tells}
-use Rattle.scope_check.specs.Cases.{IsCase}
 use Rattle.scope_check.specs.Surveys.{IsSurvey, SurveyParts}
 use Rattle.scope_check.specs.Tests.{calls_native, differ, is_unfit, makes_thread, reached_tests}
 use Rattle.scope_check.proofs.Known.{entered, in_mask_told, lock_field, static_known}
@@ -39,7 +33,7 @@ different true false is same = true≢false same
 different false true is same = true≢false (sym same)
 different false false is same = true≢false (sym is)
 
-module _ (s : SurveyParts) (inv : IsSurvey s) (case : IsCase s.case) (m i pc : ℕ) (reached : IsEntered s.case m) (at : pc_at s.case.app m i ≡ Some pc) where
+module _ (s : SurveyParts) (inv : IsSurvey s) (m i pc : ℕ) (reached : IsEntered s.case m) (at : pc_at s.case.app m i ≡ Some pc) where
   abbrev x : Candidate
   x = s.case
 
@@ -54,27 +48,27 @@ module _ (s : SurveyParts) (inv : IsSurvey s) (case : IsCase s.case) (m i pc : �
   faulty_found l slot is =
       let told = in_mask_told s.faulty l is in
       let bad = (inv.faulty l told.0).0 told.1 in
-      let access = record { reached = reached; slot = slot; is = bad.1 } in
+      let access : IsAccess x m i l bad.0 = record { reached = reached; slot = slot; is = bad.1 } in
       ⊎_elim
       (λ other. breaks.unowned i at access bad.2 other)
       (λ made. (let by = in_mask_told inv.made l made in
         let maker = (inv.makes l by.0).0 by.1 in
-        let low = maker.2.1.2.2.2.1 in
-        let same : ◌≡◌ {A = FieldRow} maker.2.1.2.2.2.0 bad.0 = (let e : ◌≡◌ {A = Option FieldRow} (Some maker.2.1.2.2.2.0) (Some bad.0) = sym low ∙ bad.1 in cc) in
+        let low = maker.2.1.2.2.1 in
+        let same : ◌≡◌ {A = FieldRow} maker.2.1.2.2.0 bad.0 = (let e : ◌≡◌ {A = Option FieldRow} (Some maker.2.1.2.2.0) (Some bad.0) = sym low ∙ bad.1 in cc) in
         breaks.made_by_hand i at access bad.2 (record {
           method = maker.0;
           index = maker.2.1.0;
           kind = maker.2.1.2.0;
-          reached = entered s inv case maker.0 maker.2.0;
+          reached = entered s inv maker.0 maker.2.0;
           makes = maker.2.1.2.1;
-          below = subst (λ (field : FieldRow). is_type_below x.app maker.2.1.2.0 (slice_get x.app.classes field.class.0) ≡ true) same maker.2.1.2.2.2.2;
+          below = subst (λ (field : FieldRow). is_type_below x.app maker.2.1.2.0 (slice_get x.app.classes field.class.0) ≡ true) same maker.2.1.2.2.2;
         })))
       bad.3
 
   unfit_found : (l : ℕ) → slot_at x.app m i ≡ Some l → differ (is_static_access (ins_at x.app m i)) (in_lock_mask s.statics l) ≡ true → Breaks x 7 m pc
   unfit_found l slot is =
-      let field = lock_field x.app case.sound l (slot_below x.app m i l slot) in
-      breaks.unfit_access i at (record { reached = reached; slot = slot; is = field.1 }) (λ same. different _ _ is (same ∙ static_known s inv case.sound l field.0 field.1))
+      let field = lock_field x.app inv.case.sound l (slot_below x.app m i l slot) in
+      breaks.unfit_access i at (record { reached = reached; slot = slot; is = field.1 }) (λ same. different _ _ is (same ∙ static_known s inv inv.case.sound l field.0 field.1))
 
   unfit_by : (slot : Option ℕ) → slot_at x.app m i ≡ slot → is_unfit s.faulty s.statics (ins_at x.app m i) slot ≡ true → Breaks x 7 m pc
   unfit_by None there is = absurd (true≢false (sym is))

@@ -1,19 +1,18 @@
 -- What the pass keeps, step by step.
-use Rattle.std.proofs.Common.{◌≡◌, ◌≢◌, ℕ, zero, suc, ◌+◌, ◌<◌, ◌≤◌, ◌&&◌, ◌∷◌, [], Bool, true, false, if◌then◌else◌, not, List, length, refl, sym, ap, ◌∙◌, subst, ⊎_elim, inl, inr, arith, bytes_eq, Option, Some, None, slice_get}
+use Rattle.std.proofs.Common.{◌≡◌, ◌≢◌, ℕ, zero, suc, ◌+◌, ◌<◌, ◌≤◌, ◌&&◌, ◌∷◌, [], Bool, true, false, not, List, refl, sym, ap, ◌∙◌, subst, ⊎_elim, inl, inr, arith, bytes_eq, Option, Some, None, slice_get}
 use Rattle.std.specs.Prelude.{◌⊎◌, ◌↔◌}
 use Rattle.std.specs.Int.{bit_at}
 use Rattle.std.proofs.lemmas.Bool.{cases_lt, true≢false}
 use Rattle.std.proofs.lemmas.Slice.Eq.{bytes_eq-Decides}
-use Rattle.app_model.specs.Masks.{in_lock_mask}
 use Rattle.app_model.specs.TagTable.{row_at}
 use Rattle.app_model.specs.Words.{code_len, pc_at}
+use Rattle.app_model.specs.declared.tag.Tag.{Tag}
+use Rattle.act_model.specs.declared.act.Act.{Act}
 use Rattle.act_model.specs.Acts.{act_at}
 use Rattle.flow_model.specs.Breaks.{Breaks, Candidate, IsEarlier, IsEntered, StoresNew, class_initialiser, initialises, is_lock_ins, method_name, second_store, unreached}
 use Rattle.flow_model.specs.Scope.{stores_new}
 use Rattle.scope_check.specs.declared.found.Found.{Found}
 use Rattle.scope_check.specs.declared.pass.Pass.{Pass}
-use Rattle.scope_check.specs.Bits.{Tells}
-use Rattle.scope_check.specs.Cases.{IsCase}
 use Rattle.scope_check.specs.Founds.{Covers, IsFound, Keeps}
 use Rattle.scope_check.specs.Passing.{IsPass, StoredBefore, has_stored}
 use Rattle.scope_check.specs.Surveys.{IsSurvey, SurveyParts, is_marked}
@@ -44,13 +43,19 @@ moved_pc x n j m i pc p here at there = let e : ◌≡◌ {A = Option ℕ} (Some
 back_covers : (kept : Option Found) (r n j m i pc p : ℕ) → (n ≡ m) × (j ≡ i) → pc ≡ p → Covers kept r m pc → Covers kept r n p
 back_covers kept r n j m i pc p here same covers = subst (Covers kept r n) same (subst (λ (k : ℕ). Covers kept r k pc) (sym here.0) covers)
 
+-- what an act stores, by the act and the row that are read
+pub stored_told : (x : Candidate) (m i : ℕ) (act : Act) (row : List Tag) (fresh : Option ℕ) → act_at x.app m i ≡ Some act → row ≡ row_at x.tags m i → ((l : ℕ) → (stores_new l (Some act) row ≡ true) ↔ (fresh ≡ Some l))
+    → (l : ℕ) → (stores_new l (act_at x.app m i) (row_at x.tags m i) ≡ true) ↔ (fresh ≡ Some l)
+stored_told x m i act row fresh is row_is told l =
+    subst (λ (one : Option Act). (stores_new l one (row_at x.tags m i) ≡ true) ↔ (fresh ≡ Some l)) (sym is) (subst (λ (tags : List Tag). (stores_new l (Some act) tags ≡ true) ↔ (fresh ≡ Some l)) row_is (told l))
+
 -- ---- one more place
 abbrev IsSound : Candidate → Option Found → Type 0
 IsSound x kept = (rule n pc : ℕ) → IsFound kept rule n pc → Breaks x rule n pc
 
 pub keeps_sound : (x : Candidate) (tests : List Bool) (m pc : ℕ) (old new : Option Found) → Keeps tests m pc old new → IsSound x old → ((rule : ℕ) → slice_get tests rule ≡ Some true → Breaks x rule m pc) → IsSound x new
 keeps_sound x tests m pc old new keeps before this rule n p found = ⊎_elim
-    (λ same. before rule n p (found.0, sym same ∙ found.1, found.2))
+    (λ same. before rule n p (found.0, sym same ∙ found.1, found.2, found.3, found.4))
     (λ here. (let h = here.2 in
       let one : ◌≡◌ {A = Found} h.0 found.0 = (let e : ◌≡◌ {A = Option Found} (Some h.0) (Some found.0) = sym h.1 ∙ found.1 in cc) in
       let r : here.0 ≡ rule = sym h.2 ∙ ap (λ (f : Found). f.rule) one ∙ found.2 in
@@ -65,7 +70,7 @@ reached_at s m i is = rw is refl
 pub unreached_at : (s : SurveyParts) (m i : ℕ) → is_marked s.reached m ≡ false → tests_at s m i ≡ unreached_tests s m i
 unreached_at s m i is = rw is refl
 
-abbrev past_tests : Bool → List Bool
+abbrev pub past_tests : Bool → List Bool
 past_tests touches = false ∷ false ∷ false ∷ false ∷ false ∷ false ∷ false ∷ false ∷ touches ∷ []
 
 pub not_false : (b : Bool) → not b ≡ true → b ≡ false
@@ -77,22 +82,22 @@ and_one true = refl
 and_one false = refl
 
 not_named : (s : SurveyParts) (m : ℕ) → may_not_touch s.case.app m ≡ true → method_name s.case.app m ≢ class_initialiser
-not_named s m may same = let b = both _ _ may in true≢false (sym ((bytes_eq-Decides (method_name s.case.app m) class_initialiser).1 same) ∙ not_false _ b.0)
+not_named s m may same = let b = both (not (bytes_eq (method_name s.case.app m) class_initialiser)) (not (initialises s.case.app m)) may in true≢false (sym ((bytes_eq-Decides (method_name s.case.app m) class_initialiser).1 same) ∙ not_false _ b.0)
 
 not_initialises : (s : SurveyParts) (m : ℕ) → may_not_touch s.case.app m ≡ true → initialises s.case.app m ≡ false
-not_initialises s m may = let b = both _ _ may in not_false _ b.1
+not_initialises s m may = not_false _ (both (not (bytes_eq (method_name s.case.app m) class_initialiser)) (not (initialises s.case.app m)) may).1
 
-abbrev second_tests : Bool → List Bool
+abbrev pub second_tests : Bool → List Bool
 second_tests again = false ∷ false ∷ false ∷ false ∷ false ∷ false ∷ again ∷ []
 
-module _ (s : SurveyParts) (inv : IsSurvey s) (case : IsCase s.case) (heads m i : ℕ) (old : Pass) (before : IsPass s heads m i old) (pc : ℕ) (at : pc_at s.case.app m i ≡ Some pc) where
+module _ (s : SurveyParts) (inv : IsSurvey s) (heads m i : ℕ) (old : Pass) (before : IsPass s heads m i old) (pc : ℕ) (at : pc_at s.case.app m i ≡ Some pc) where
   abbrev x : Candidate
   x = s.case
 
   module _ (is : is_marked s.reached m ≡ true) (first second : Option Found) (fresh : Option ℕ) (stored : ℕ)
       (new : (l : ℕ) → (stores_new l (act_at s.case.app m i) (row_at s.case.tags m i) ≡ true) ↔ (fresh ≡ Some l)) where
     abbrev reached : IsEntered x m
-    reached = entered s inv case m is
+    reached = entered s inv m is
 
     stores_here : (l : ℕ) → StoresNew x l m i → fresh ≡ Some l
     stores_here l st = (new l).0 st.stores
@@ -102,7 +107,7 @@ module _ (s : SurveyParts) (inv : IsSurvey s) (case : IsCase s.case) (heads m i 
 
     again_stored : (l : ℕ) → fresh ≡ Some l → StoredBefore x m i l → has_stored old.stored fresh ≡ true
     again_stored l is st =
-        let low = store_within x.app case.sound l m i (row_at x.tags m i) ((new l).1 is) in
+        let low = store_within x.app inv.case.sound l m i (row_at x.tags m i) ((new l).1 is) in
         rw is (told_in_mask old.stored l low ((before.stored l low).1 st))
 
     stored_again : (fresh_is : Option ℕ) → fresh ≡ fresh_is → has_stored old.stored fresh_is ≡ true → Breaks x 6 m pc
@@ -125,7 +130,7 @@ module _ (s : SurveyParts) (inv : IsSurvey s) (case : IsCase s.case) (heads m i 
     pub look_step : Keeps (reached_tests s m i) m pc old.kept first → Keeps (second_tests (has_stored old.stored fresh)) m pc first second
         → ((l : ℕ) → l < 64 → (bit_at stored l ≡ 1) ↔ ((bit_at old.stored l ≡ 1) ⊎ (fresh ≡ Some l))) → IsPass s heads m (i + 1) (record { kept = second; stored = stored })
     look_step one two more = record {
-      sound = keeps_sound x (second_tests (has_stored old.stored fresh)) m pc first second two (keeps_sound x (reached_tests s m i) m pc old.kept first one before.sound (reached_sound s inv case m i pc reached at)) second_sound;
+      sound = keeps_sound x (second_tests (has_stored old.stored fresh)) m pc first second two (keeps_sound x (reached_tests s m i) m pc old.kept first one before.sound (reached_sound s inv m i pc reached at)) second_sound;
       tests = λ n j r p earlier there passed. ⊎_elim
           (λ old_place. two.on r n p (one.on r n p (before.tests n j r p old_place there passed)))
           (λ here. (let test = subst (λ (tests : List Bool). slice_get tests r ≡ Some true) (reached_at s m i is) (moved (λ (a b : ℕ). slice_get (tests_at s a b) r ≡ Some true) n j m i here passed) in
@@ -149,7 +154,7 @@ module _ (s : SurveyParts) (inv : IsSurvey s) (case : IsCase s.case) (heads m i 
   -- an instruction of a method that is not reached
   module _ (is : is_marked s.reached m ≡ false) where
     unentered : ¬ IsEntered x m
-    unentered reached = true≢false (sym (marked s inv case m reached) ∙ is)
+    unentered reached = true≢false (sym (marked s inv m reached) ∙ is)
 
     past_sound : (named : method_name x.app m ≢ class_initialiser) (touching : initialises x.app m ≡ false) (rule : ℕ) → slice_get (past_tests (is_lock_ins x.app m i)) rule ≡ Some true → Breaks x rule m pc
     past_sound named touching zero passed = absurd (not_true passed)
@@ -166,7 +171,7 @@ module _ (s : SurveyParts) (inv : IsSurvey s) (case : IsCase s.case) (heads m i 
 
     -- the tests of such an instruction
     past_at : may_not_touch x.app m ≡ true → unreached_tests s m i ≡ past_tests (is_lock_ins x.app m i)
-    past_at may = let b = both _ _ may in ap past_tests (rw (b.0, b.1) (and_one (is_lock_ins x.app m i)))
+    past_at may = let b = both (not (bytes_eq (method_name x.app m) class_initialiser)) (not (initialises x.app m)) may in ap past_tests (rw (b.0, b.1) (and_one (is_lock_ins x.app m i)))
 
     none_stored : (l : ℕ) → StoresNew x l m i → ⊥
     none_stored l st = unentered st.reached
@@ -192,48 +197,45 @@ module _ (s : SurveyParts) (inv : IsSurvey s) (case : IsCase s.case) (heads m i 
 
 -- ---- from a method to the next
 -- no instruction of method m is left
-module _ (s : SurveyParts) (inv : IsSurvey s) (case : IsCase s.case) (heads m i : ℕ) (pass : Pass) (before : IsPass s heads m i pass) where
-  abbrev x : Candidate
-  x = s.case
-
+module _ (s : SurveyParts) (inv : IsSurvey s) (heads m i : ℕ) (pass : Pass) (before : IsPass s heads m i pass) where
   earlier_method : (n j k : ℕ) → IsEarlier n j (m + 1) k → k ≡ 0 → (n < m) ⊎ (n ≡ m)
   earlier_method n j k e zero_place = ⊎_elim (λ lt. ⊎_elim inl (λ le. inr (omega (arith, lt, le))) (cases_lt n m)) (λ same. absurd (omega (arith, same.1, zero_place))) e
 
   -- what is left of it breaks no rule
-  pub next_method : ((j p r : ℕ) → i ≤ j → pc_at x.app m j ≡ Some p → slice_get (tests_at s m j) r ≢ Some true) → ((j l : ℕ) → i ≤ j → ¬ StoresNew x l m j) → IsPass s heads (m + 1) 0 pass
+  pub next_method : ((j p r : ℕ) → i ≤ j → pc_at s.case.app m j ≡ Some p → slice_get (tests_at s m j) r ≢ Some true) → ((j l : ℕ) → i ≤ j → ¬ StoresNew s.case l m j) → IsPass s heads (m + 1) 0 pass
   next_method quiet stores = record {
     sound = before.sound;
     tests = λ n j r p earlier there passed. ⊎_elim
         (λ lt. before.tests n j r p (inl lt) there passed)
         (λ same. ⊎_elim (λ less. before.tests n j r p (inr (same, less)) there passed)
-          (λ le. absurd (quiet j p r le (subst (λ (k : ℕ). pc_at x.app k j ≡ Some p) same there) (subst (λ (k : ℕ). slice_get (tests_at s k j) r ≡ Some true) same passed))) (cases_lt j i))
+          (λ le. absurd (quiet j p r le (subst (λ (k : ℕ). pc_at s.case.app k j ≡ Some p) same there) (subst (λ (k : ℕ). slice_get (tests_at s k j) r ≡ Some true) same passed))) (cases_lt j i))
         (earlier_method n j 0 earlier refl);
     seconds = λ l n j k e p earlier there st older first_place. ⊎_elim
         (λ lt. before.seconds l n j k e p (inl lt) there st older first_place)
         (λ same. ⊎_elim (λ less. before.seconds l n j k e p (inr (same, less)) there st older first_place)
-          (λ le. absurd (stores j l le (subst (λ (k : ℕ). StoresNew x l k j) same st))) (cases_lt j i))
+          (λ le. absurd (stores j l le (subst (λ (k : ℕ). StoresNew s.case l k j) same st))) (cases_lt j i))
         (earlier_method n j 0 earlier refl);
     whole = before.whole;
     stored = λ l low. (
       λ bit. (let st = (before.stored l low).0 bit in (st.0, st.1, st.2, ⊎_elim (λ lt. inl (omega (arith, lt))) (λ same. inl (omega (arith, same.0))) st.3)),
       λ st. ⊎_elim
           (λ lt. (before.stored l low).1 (st.0, st.1, st.2, inl lt))
-          (λ same. ⊎_elim (λ less. (before.stored l low).1 (st.0, st.1, st.2, inr (same, less))) (λ le. absurd (stores st.1 l le (subst (λ (k : ℕ). StoresNew x l k st.1) same st.2))) (cases_lt st.1 i))
+          (λ same. ⊎_elim (λ less. (before.stored l low).1 (st.0, st.1, st.2, inr (same, less))) (λ le. absurd (stores st.1 l le (subst (λ (k : ℕ). StoresNew s.case l k st.1) same st.2))) (cases_lt st.1 i))
           (earlier_method st.0 st.1 0 st.3 refl),
     );
   }
 
   -- none is left
-  pub method_done : code_len x.app m ≤ i → IsPass s heads (m + 1) 0 pass
+  pub method_done : code_len s.case.app m ≤ i → IsPass s heads (m + 1) 0 pass
   method_done whole = next_method
-      (λ j p r le there passed. (let low = pc_within x.app m j p there in omega (arith, le, low, whole)))
-      (λ j l le st. (let low = store_code x.app m j l (row_at x.tags m j) st.stores in omega (arith, le, low, whole)))
+      (λ j p r le there passed. (let low = pc_within s.case.app m j p there in omega (arith, le, low, whole)))
+      (λ j l le st. (let low = store_code s.case.app m j l (row_at s.case.tags m j) st.stores in omega (arith, le, low, whole)))
 
   -- a method that is not reached, and may touch locks, or does not
-  pub method_passed : is_marked s.reached m ≡ false → may_not_touch x.app m ≡ false → IsPass s heads (m + 1) 0 pass
+  pub method_passed : is_marked s.reached m ≡ false → may_not_touch s.case.app m ≡ false → IsPass s heads (m + 1) 0 pass
   method_passed is may = next_method
       (λ j p r le there passed. quiet_tests j r (subst (λ (tests : List Bool). slice_get tests r ≡ Some true) (unreached_at s m j is) passed))
-      (λ j l le st. true≢false (sym (marked s inv case m st.reached) ∙ is))
+      (λ j l le st. true≢false (sym (marked s inv m st.reached) ∙ is))
     where
       quiet : (a b c : Bool) → (a && c) ≡ false → (a && (b && c)) ≡ false
       quiet true b true none = absurd (true≢false none)
@@ -250,7 +252,7 @@ module _ (s : SurveyParts) (inv : IsSurvey s) (case : IsCase s.case) (heads m i 
       quiet_tests j (suc (suc (suc (suc (suc zero))))) passed = not_true passed
       quiet_tests j (suc (suc (suc (suc (suc (suc zero)))))) passed = not_true passed
       quiet_tests j (suc (suc (suc (suc (suc (suc (suc zero))))))) passed = not_true passed
-      quiet_tests j (suc (suc (suc (suc (suc (suc (suc (suc zero)))))))) passed = true≢false (sym (true_of _ passed) ∙ quiet _ (is_lock_ins x.app m j) _ may)
+      quiet_tests j (suc (suc (suc (suc (suc (suc (suc (suc zero)))))))) passed = true≢false (sym (true_of _ passed) ∙ quiet _ (is_lock_ins s.case.app m j) _ may)
       quiet_tests j (suc (suc (suc (suc (suc (suc (suc (suc (suc n))))))))) passed = cc
 
 -- ---- a method as a whole

@@ -1,6 +1,5 @@
 -- Where rules are broken there is an instruction of a method.
-use Rattle.std.proofs.Common.{◌≡◌, ◌≢◌, ℕ, ◌<◌, ◌≤◌, ◌&&◌, ◌||◌, ◌∷◌, [], Bool, true, false, if◌then◌else◌, not, List, length, get_or, refl, sym, ap, ◌∙◌, subst, ⊎_elim, arith, bytes_eq, codes, Contains, Option, Some, None, is_some, slice_get, slice_index_or}
-use Rattle.std.specs.List.{All}
+use Rattle.std.proofs.Common.{◌≡◌, ◌≢◌, ℕ, ◌<◌, ◌||◌, ◌∷◌, [], true, if◌then◌else◌, not, List, length, get_or, refl, sym, ap, ◌∙◌, subst, ⊎_elim, arith, Contains, Option, Some, None, is_some, slice_get, slice_index_or}
 use Rattle.std.proofs.lemmas.Bool.{cases_lt, true≢false}
 use Rattle.std.proofs.lemmas.List.{get_or_past}
 use Rattle.std.proofs.lemmas.Option.{slice_get_within, slice_get-get_or}

@@ -1,6 +1,5 @@
 -- For which lock fields each component answers, and who owns them, as they are found.
-use Rattle.std.specs.Prelude.{ℕ, ◌≡◌, ◌<◌, Bool, true, false, List, length, Option, Some, None, slice_get, slice_index}
-use Rattle.std.specs.Int.{bit_at}
+use Rattle.std.specs.Prelude.{ℕ, ◌≡◌, ◌<◌, true, false, List, length, Option, Some, None, slice_get, slice_index}
 use Rattle.ns_base.specs.declared.rows.ComponentNo.{ComponentNo}
 use Rattle.ns_base.specs.declared.rows.MethodNo.{MethodNo}
 use Rattle.app_model.specs.declared.rows.FieldRow.{FieldRow}
@@ -42,11 +41,13 @@ MethodHas words methods k l = (method : Option MethodNo) × (slice_get methods k
 abbrev pub RowHas : List ℕ → ComponentParts → ℕ → Type 0
 RowHas words component = HoldsBelow (length component.methods) (MethodHas words component.methods)
 
-pub record AreAnswers (s : SurveyParts) (answers : List ℕ) : Type 0 where
-  pub below : List ℕ
-  pub acquires : AcquiresBelow s below
-  pub len : length answers ≡ length s.case.list
-  pub each : (c : ℕ) (component : ComponentParts) → slice_get s.case.list c ≡ Some component → Tells (slice_index answers c) (RowHas below component)
+-- a word for each component
+pub record AreRowAnswers (below : List ℕ) (list : List ComponentParts) (answers : List ℕ) : Type 0 where
+  pub len : length answers ≡ length list
+  pub each : (c : ℕ) (component : ComponentParts) → slice_get list c ≡ Some component → Tells (slice_index answers c) (RowHas below component)
+
+abbrev pub AreAnswers : SurveyParts → List ℕ → Type 0
+AreAnswers s answers = (below : List ℕ) × AcquiresBelow s below × AreRowAnswers below s.case.list answers
 
 -- ---- owners
 -- a component that may own an instance field; None where none may

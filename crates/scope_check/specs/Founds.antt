@@ -1,5 +1,5 @@
 -- Broken rules in order of rule, method and pc.
-use Rattle.std.specs.Prelude.{ℕ, ◌≡◌, ◌≢◌, ◌⊎◌, ◌<◌, ◌≤◌, ◌==◌, Bool, true, false, if◌then◌else◌, nat_le, nat_lt, List, Option, Some, None, slice_get}
+use Rattle.std.specs.Prelude.{ℕ, ◌≡◌, ◌≢◌, ◌⊎◌, ◌<◌, ◌≤◌, ◌==◌, Bool, true, if◌then◌else◌, nat_le, nat_lt, List, Option, Some, None, slice_get}
 use Rattle.scope_check.specs.declared.found.Found.{Found}
 
 -- the order of first breaks

@@ -1,5 +1,5 @@
 -- What the instructions of each method do with locks, as two bits.
-use Rattle.std.specs.Prelude.{ℕ, ◌≡◌, ◌<◌, ◌↔◌, ◌&&◌, not, Bool, true, false, List, length, slice_index}
+use Rattle.std.specs.Prelude.{ℕ, ◌≡◌, ◌<◌, ◌↔◌, ◌&&◌, not, Bool, true, List, length, slice_index}
 use Rattle.std.specs.Int.{bit_at}
 use Rattle.app_model.specs.Masks.{any_below}
 use Rattle.app_model.specs.Parts.{AppParts}

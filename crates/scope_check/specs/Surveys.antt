@@ -8,6 +8,7 @@ use Rattle.flow_model.specs.Breaks.{Candidate}
 use Rattle.scope_check.specs.declared.kinds.KindRow.{KindRow}
 use Rattle.scope_check.specs.declared.names.NameRow.{NameRow}
 use Rattle.scope_check.specs.Bits.{HoldsBelow, Tells}
+use Rattle.scope_check.specs.Cases.{IsCase}
 use Rattle.scope_check.specs.Fields.{AccessesIn, InReached, IsFaulty, IsStatic, MakesIn}
 use Rattle.scope_check.specs.LockCode.{AreLockWords}
 use Rattle.scope_check.specs.Texts.{AreKinds, AreNames}
@@ -33,6 +34,7 @@ abbrev pub Anywhere : (app : AppParts) → (marks : List Bool) → ((m l : ℕ) 
 Anywhere app marks P = HoldsBelow (length app.methods) (InReached marks P)
 
 pub record IsSurvey (s : SurveyParts) : Type 0 where
+  pub case : IsCase s.case
   pub entries : s.entries ≡ entries_of s.case.list
   pub reached : AreReached s.case.app s.case.graph (entries_of s.case.list) s.reached
   pub kinds : AreKinds s.case.app s.kinds

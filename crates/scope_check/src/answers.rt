@@ -3,15 +3,14 @@ ghost use Rattle.std.specs.Prelude.{◌≡◌, ◌<◌, IfOk, length, true, Some
 ghost use Rattle.app_model.specs.Words.{code_len};
 ghost use Rattle.flow_model.specs.Passes.{is_field};
 ghost use Rattle.flow_model.specs.Policy as policy;
-ghost use Rattle.scope_check.specs.Answering.{AcquiresAt, AcquiresIn, AcquiresBelow, AreAcquired, AreAnswers, MethodHas, WordHas};
+ghost use Rattle.scope_check.specs.Answering.{AcquiresAt, AcquiresIn, AcquiresBelow, AreAcquired, AreAnswers, AreRowAnswers, MethodHas, WordHas};
 ghost use Rattle.scope_check.specs.Bits.{Tells, HoldsBelow};
 
 use crate::bits::bit_of;
 use crate::survey::Survey;
-use act_model::{Act, Row, act_of, receiver_tag};
-use app_model::{LockUse, Tag};
+use act_model::{Act, Row, receiver_tag};
+use app_model::{ComponentRow, LockUse, Tag};
 use call_reach::gathers;
-use flow_model::TagsAt;
 use ns_base::{MethodNo, OutOfMemory};
 use std::alloc::{AllocError, Global};
 
@@ -43,12 +42,8 @@ fn acquired_at(survey: &Survey, method: MethodNo, index: u32) -> u64
     requires index { index < code_len survey.now.case.app method.0 }
     ensures { Tells result (AcquiresAt survey.now.case method.0 index) }
 {
-    let act = act_of(&survey.case.app, method, index);
-    let row = TagsAt {
-        table: &survey.case.tags,
-        method,
-        index,
-    };
+    let act = survey.act(method, index);
+    let row = survey.row(method, index);
     acquired(&act, &row)
 }
 
@@ -58,7 +53,7 @@ fn acquired_in(survey: &Survey, method: MethodNo) -> u64
     ensures { Tells result (HoldsBelow (code_len survey.now.case.app method.0) (AcquiresAt survey.now.case method.0)) }
 {
     let mut mask = 0;
-    for index in 0..survey.case.app.code_len(method) {
+    for index in 0..survey.code_len(method) {
         mask |= acquired_at(survey, method, index);
     }
     mask
@@ -78,8 +73,8 @@ fn acquired_word(survey: &Survey, method: MethodNo) -> u64
 fn acquired_words(alloc: Global, survey: &Survey) -> Result<Vec<u64>, AllocError>
     ensures { IfOk result (λ words. AreAcquired survey.now words.items) }
 {
-    let mut words = Vec::with_capacity(alloc, survey.case.app.method_count() as usize)?;
-    for method in 0..survey.case.app.method_count() {
+    let mut words = Vec::with_capacity(alloc, survey.method_count() as usize)?;
+    for method in 0..survey.method_count() {
         words.push(acquired_word(survey, MethodNo(method)))?;
     }
     Ok(words)
@@ -117,16 +112,25 @@ fn answers_of(below: &[u64], methods: &[Option<MethodNo>]) -> u64
     mask
 }
 
+fn answer_rows(
+    alloc: Global,
+    below: &[u64],
+    rows: &[ComponentRow],
+) -> Result<Vec<u64>, AllocError>
+    ensures { IfOk result (λ answers. AreRowAnswers below.now rows.now answers.items) }
+{
+    let mut answers = Vec::with_capacity(alloc, rows.len())?;
+    for c in 0..rows.len() {
+        let row = &rows[c];
+        answers.push(answers_of(below, &row.methods))?;
+    }
+    Ok(answers)
+}
+
 /// For each component the lock fields for which it answers.
 pub(crate) fn answers(alloc: Global, survey: &Survey) -> Result<Vec<u64>, AllocError>
     ensures { IfOk result (λ answers. AreAnswers survey.now answers.items) }
 {
     let below = words_below(alloc, survey)?;
-    let rows = survey.case.list.rows.as_slice();
-    let mut answers = Vec::with_capacity(alloc, rows.len())?;
-    for c in 0..rows.len() {
-        let row = &rows[c];
-        answers.push(answers_of(&below, &row.methods))?;
-    }
-    Ok(answers)
+    answer_rows(alloc, &below, &survey.case.list.rows)
 }

@@ -1,6 +1,7 @@
 //! What is known of each lock field before the rules are looked at.
-ghost use Rattle.std.specs.Prelude.{◌≡◌, ◌<◌, ◌≤◌, ◌↔◌, length, filter, true, Some, slice_get};
-ghost use Rattle.app_model.specs.Words.{code_len};
+ghost use Rattle.std.specs.Prelude.{◌≡◌, ◌<◌, ◌≤◌, ◌↔◌, IfSome, option_map, length, filter, true, Some, slice_get};
+ghost use Rattle.ns_base.specs.declared.rows.TypeNo.{TypeNo};
+ghost use Rattle.app_model.specs.Words.{code_len, ins_at};
 ghost use Rattle.class_graph.specs.Belongs.{IsClassGraph};
 ghost use Rattle.flow_model.specs.Breaks as breaks;
 ghost use Rattle.scope_check.specs.Bits.{Tells, HoldsBelow};
@@ -9,7 +10,7 @@ ghost use Rattle.scope_check.specs.Texts.{AreKinds};
 
 use crate::bits::{bit_if, bit_of, has_lock};
 use crate::case::Case;
-use crate::kinds::KindRow;
+use crate::kinds::{KindRow, kind_at};
 use app_model::{App, ComponentRow, FieldRow, Kind};
 use class_graph::ClassGraph;
 use dalvik::{Ins, access};
@@ -141,17 +142,30 @@ fn accessed_at(app: &App, method: MethodNo, index: u32) -> u64
     }
 }
 
+/// The type of which an instruction makes an object.
+pub(crate) fn made_type(app: &App, method: MethodNo, index: u32) -> Option<TypeNo>
+    requires method { method.0 < length app.now.methods }
+    requires index { index < code_len app.now method.0 }
+    ensures made { option_map (λ (t : TypeNo). t.0) result ≡ breaks.made_type (ins_at app.now method.0 index) }
+    ensures within { IfSome result (λ t. t.0 < length app.now.types) }
+{
+    app.told();
+    let (_, ins) = app.ins(method, index);
+    match ins {
+        Ins::NewInstance { kind, .. } => Some(TypeNo(kind)),
+        _ => None,
+    }
+}
+
 fn made_at(app: &App, kinds: &[KindRow], method: MethodNo, index: u32) -> u64
     requires method { method.0 < length app.now.methods }
     requires index { index < code_len app.now method.0 }
     requires kinds { AreKinds app.now kinds.now }
     ensures { Tells result (Makes app.now method.0 index) }
 {
-    app.told();
-    let (_, ins) = app.ins(method, index);
-    match ins {
-        Ins::NewInstance { kind, .. } => kinds[kind as usize].above,
-        _ => 0,
+    match made_type(app, method, index) {
+        Some(kind) => kind_at(app, kinds, kind).above,
+        None => 0,
     }
 }
 

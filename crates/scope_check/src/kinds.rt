@@ -1,5 +1,5 @@
 //! What the rules ask of each type.
-ghost use Rattle.std.specs.Prelude.{◌≡◌, ◌||◌, ◌↔◌, IfOk, length, true, bytes_eq, codes, slice_get};
+ghost use Rattle.std.specs.Prelude.{◌≡◌, ◌<◌, ◌||◌, ◌↔◌, IfOk, length, true, bytes_eq, codes, slice_get};
 ghost use Rattle.std.specs.List.{list_any};
 ghost use Rattle.ns_base.specs.declared.rows.TypeNo.{TypeNo};
 ghost use Rattle.app_model.specs.Hierarchy.{is_sub};
@@ -144,4 +144,13 @@ pub(crate) fn kind_rows(
         kinds.push(row_of(app, classes, &threads, TypeNo(t)))?;
     }
     Ok(kinds)
+}
+
+/// The row of a type.
+pub(crate) fn kind_at(app: &App, kinds: &[KindRow], kind: TypeNo) -> KindRow
+    requires kinds { AreKinds app.now kinds.now }
+    requires kind { kind.0 < length app.now.types }
+    ensures { IsKind app.now kind.0 result }
+{
+    kinds[kind.0 as usize]
 }

@@ -1,34 +1,41 @@
 //! The component whose creation clears each instance lock field.
-ghost use Rattle.std.specs.Prelude.{◌≡◌, IfOk, Some};
+ghost use Rattle.std.specs.Prelude.{◌≡◌, ◌<◌, ◌^◌, IfOk, length};
 ghost use Rattle.class_graph.specs.Belongs.{IsClassGraph};
 ghost use Rattle.scope_check.specs.Answering.{AreOwners, IsOwner, IsOwnerOf};
 
 use crate::bits::has_lock;
-use crate::fields::{field_of_lock, is_static, lock_count, may_own};
+use crate::fields::{field_of_lock, is_static, may_own};
 use crate::survey::Survey;
-use app_model::FieldRow;
+use app_model::{App, ComponentRow, FieldRow};
 use class_graph::ClassGraph;
 use ns_base::{ComponentNo, LockNo};
 use std::alloc::{AllocError, Global};
 
 // A component that may own an instance field.
-fn owner_of_field(
-    survey: &Survey,
+fn owner_among(
+    app: &App,
     classes: &ClassGraph,
     field: FieldRow,
+    rows: &[ComponentRow],
 ) -> Option<ComponentNo>
-    requires { IsClassGraph survey.now.case.app classes.now }
-    ensures { IsOwner survey.now.case.app survey.now.case.list field result }
+    requires classes { IsClassGraph app.now classes.now }
+    requires few { length rows.now < 2 ^ 32 }
+    ensures { IsOwner app.now rows.now field result }
 {
-    survey.case.told();
-    let rows = survey.case.list.rows.as_slice();
     for c in 0..rows.len() {
-        let row = &rows[c];
-        if may_own(&survey.case.app, classes, field, row) {
+        if may_own(app, classes, field, &rows[c]) {
             return Some(ComponentNo(c as u32));
         }
     }
     None
+}
+
+fn owner_of_field(survey: &Survey, classes: &ClassGraph, field: FieldRow) -> Option<ComponentNo>
+    requires { IsClassGraph survey.now.case.app classes.now }
+    ensures { IsOwner survey.now.case.app survey.now.case.list field result }
+{
+    survey.case.told();
+    owner_among(&survey.case.app, classes, field, &survey.case.list.rows)
 }
 
 fn owner_of(survey: &Survey, classes: &ClassGraph, lock: LockNo) -> Option<ComponentNo>
@@ -53,7 +60,7 @@ pub(crate) fn owners(
     requires { IsClassGraph survey.now.case.app classes.now }
     ensures { IfOk result (λ owners. AreOwners survey.now owners.items) }
 {
-    let count = lock_count(&survey.case.app);
+    let count = survey.lock_count();
     let mut owners = Vec::with_capacity(alloc, count as usize)?;
     for l in 0..count {
         owners.push(owner_of(survey, classes, LockNo(l)))?;

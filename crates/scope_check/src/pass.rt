@@ -11,11 +11,10 @@ ghost use Rattle.scope_check.specs.Tests.{may_not_touch};
 
 use crate::bits::{bit_of, has_lock};
 use crate::found::{Found, keep};
-use crate::lock_code::is_lock_ins;
 use crate::survey::Survey;
-use act_model::{Act, Row, act_of};
+use act_model::{Act, Row};
 use class_graph::ClassGraph;
-use flow_model::{TagsAt, stores_new};
+use flow_model::stores_new;
 use ns_base::{LockNo, MethodNo};
 
 /// The first broken rule so far, and the lock fields to which new locks were stored so far.
@@ -61,15 +60,9 @@ fn look_at(survey: &Survey, method: MethodNo, index: u32, pass: Pass) -> Pass
     ensures { (heads : ℕ) → IsPass survey.now heads method.0 index pass → IsPass survey.now heads method.0 (index + 1) result }
 {
     survey.told();
-    survey.case.told();
-    let app = &survey.case.app;
-    let act = act_of(app, method, index);
-    let row = TagsAt {
-        table: &survey.case.tags,
-        method,
-        index,
-    };
-    let (pc, _) = app.ins(method, index);
+    let act = survey.act(method, index);
+    let row = survey.row(method, index);
+    let (pc, _) = survey.ins(method, index);
     let tests = survey.tests(method, index, &act, &row);
     let first = keep(pass.kept, &tests, method, pc);
     let fresh = new_store(&act, &row);
@@ -89,10 +82,8 @@ fn look_past(survey: &Survey, method: MethodNo, index: u32, pass: Pass) -> Pass
     ensures { (heads : ℕ) → IsPass survey.now heads method.0 index pass → IsPass survey.now heads method.0 (index + 1) result }
 {
     survey.told();
-    survey.case.told();
-    let app = &survey.case.app;
-    let (pc, _) = app.ins(method, index);
-    let touches = is_lock_ins(app, method, index);
+    let (pc, _) = survey.ins(method, index);
+    let touches = survey.is_lock_ins(method, index);
     let tests = [
         false, false, false, false, false, false, false, false, touches,
     ];
@@ -109,7 +100,6 @@ fn look_in(survey: &Survey, method: MethodNo, pass: Pass) -> Pass
     ensures { (heads : ℕ) → IsPass survey.now heads method.0 0 pass → IsPass survey.now heads (method.0 + 1) 0 result }
 {
     survey.told();
-    survey.case.told();
     if survey.reaches(method) {
         look_at_all(survey, method, pass)
     } else if survey.touches_unreached(method) {
@@ -125,9 +115,8 @@ fn look_at_all(survey: &Survey, method: MethodNo, start: Pass) -> Pass
     ensures { (heads : ℕ) → IsPass survey.now heads method.0 0 start → IsPass survey.now heads (method.0 + 1) 0 result }
 {
     survey.told();
-    survey.case.told();
     let mut pass = start;
-    for index in 0..survey.case.app.code_len(method) {
+    for index in 0..survey.code_len(method) {
         pass = look_at(survey, method, index, pass);
     }
     pass
@@ -140,9 +129,8 @@ fn look_past_all(survey: &Survey, method: MethodNo, start: Pass) -> Pass
     ensures { (heads : ℕ) → IsPass survey.now heads method.0 0 start → IsPass survey.now heads (method.0 + 1) 0 result }
 {
     survey.told();
-    survey.case.told();
     let mut pass = start;
-    for index in 0..survey.case.app.code_len(method) {
+    for index in 0..survey.code_len(method) {
         pass = look_past(survey, method, index, pass);
     }
     pass
@@ -155,7 +143,6 @@ fn look_over(survey: &Survey, classes: &ClassGraph, method: MethodNo, pass: Pass
     ensures { IsPass survey.now method.0 method.0 0 pass → IsPass survey.now (method.0 + 1) (method.0 + 1) 0 result }
 {
     survey.told();
-    survey.case.told();
     let tests = survey.head_tests(classes, method);
     let kept = keep(pass.kept, &tests, method, 0);
     let entered = Pass {
@@ -171,12 +158,11 @@ pub(crate) fn first_break(survey: &Survey, classes: &ClassGraph) -> Option<Found
     ensures { IsFirst survey.now.case result }
 {
     survey.told();
-    survey.case.told();
     let mut pass = Pass {
         kept: None,
         stored: 0,
     };
-    for method in 0..survey.case.app.method_count() {
+    for method in 0..survey.method_count() {
         pass = look_over(survey, classes, MethodNo(method), pass);
     }
     pass.kept

@@ -14,20 +14,23 @@ ghost use Rattle.class_graph.specs.Belongs.{IsClassGraph};
 ghost use Rattle.flow_model.specs.Breaks as breaks;
 ghost use Rattle.flow_model.specs.Breaks.{passes_named};
 ghost use Rattle.flow_model.specs.Passes as passes;
+ghost use Rattle.app_model.specs.Names.{name_text};
 ghost use Rattle.scope_check.specs.Tests as spec;
+ghost use Rattle.scope_check.specs.Texts.{IsKind, IsName};
 ghost use Rattle.scope_check.specs.Tests.{IsCalled};
 
 use crate::bits::has_lock;
-use crate::fields::inherits;
+use crate::fields::{inherits, made_type};
 use crate::lock_code::{has_locks, has_others, is_lock_ins, name_of};
-use crate::kinds::KindRow;
+use crate::kinds::{KindRow, kind_at};
+use crate::names::NameRow;
 use crate::survey::Survey;
 use act_model::Act;
 use app_model::{App, By, Named, call_by};
 use class_graph::ClassGraph;
 use dalvik::{Ins, access};
 use flow_model::{TagsAt, is_escape, is_wrong_call};
-use ns_base::{ClassNo, MethodNo, TypeNo};
+use ns_base::{ClassNo, MethodNo, NameNo, TypeNo};
 
 /// Whether an invoke loads code, reflects, or calls a thread, by the method that it names.
 #[derive(Clone, Copy)]
@@ -76,14 +79,29 @@ fn is_static_access(ins: Ins) -> bool
 }
 
 impl Survey {
+    fn kind(&self, kind: TypeNo) -> KindRow
+        requires { kind.0 < length self.now.case.app.types }
+        ensures { IsKind self.now.case.app kind.0 result }
+    {
+        self.told();
+        kind_at(&self.case.app, &self.kinds, kind)
+    }
+
+    fn name(&self, name: NameNo) -> NameRow
+        requires { name.0 < length self.now.case.app.names }
+        ensures { IsName (name_text self.now.case.app name.0) result }
+    {
+        self.told();
+        self.names[name.0 as usize]
+    }
+
     // What the method is that an invoke of this opcode names.
     fn called_by(&self, op: Option<u8>, named: Named) -> Called
         requires { IsOperand self.now.case.app (Invoke named) }
         ensures { IsCalled self.now.case.app op (Some named) result }
     {
-        self.told();
-        let kind = self.kinds[named.class.0 as usize];
-        let name = self.names[named.name.0 as usize];
+        let kind = self.kind(named.class);
+        let name = self.name(named.name);
         Called {
             loads: kind.system & name.loads,
             reflects: (kind.class & name.makes) | kind.reflective,
@@ -126,20 +144,21 @@ impl Survey {
         requires index { index < code_len self.now.case.app method.0 }
         ensures { result ≡ spec.makes_thread self.now.case.app (breaks.made_type (ins_at self.now.case.app method.0 index)) }
     {
-        self.case.app.told();
-        let (_, ins) = self.case.app.ins(method, index);
-        match ins {
-            Ins::NewInstance { kind, .. } => self.is_thread(TypeNo(kind)),
-            _ => false,
+        let _ = &self.case;
+        match made_type(&self.case.app, method, index) {
+            Some(kind) => self.kind(kind).thread,
+            None => false,
         }
     }
 
-    fn is_thread(&self, kind: TypeNo) -> bool
-        requires { kind.0 < length self.now.case.app.types }
-        ensures { result ≡ breaks.is_thread self.now.case.app kind.0 }
+    /// Whether an instruction is a call of a lock's method, or an access to a lock field.
+    pub(crate) fn is_lock_ins(&self, method: MethodNo, index: u32) -> bool
+        requires method { method.0 < length self.now.case.app.methods }
+        requires index { index < code_len self.now.case.app method.0 }
+        ensures { result ≡ breaks.is_lock_ins self.now.case.app method.0 index }
     {
-        self.told();
-        self.kinds[kind.0 as usize].thread
+        let _ = &self.case;
+        is_lock_ins(&self.case.app, method, index)
     }
 
     // Whether an access does not fit its lock field, or the field has not its one owner.

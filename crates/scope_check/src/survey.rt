@@ -1,6 +1,8 @@
 //! All that is known before the rules are looked at.
-ghost use Rattle.std.specs.Prelude.{◌≡◌, ◌<◌, IfOk, length};
+ghost use Rattle.std.specs.Prelude.{◌≡◌, ◌<◌, IfOk, Some, length};
+ghost use Rattle.act_model.specs.Acts.{act_at};
 ghost use Rattle.app_model.specs.Components.{entries_of};
+ghost use Rattle.app_model.specs.Words.{code_len, ins_at, pc_at};
 ghost use Rattle.call_reach.specs.Starts.{AreGathered, AreReached};
 ghost use Rattle.class_graph.specs.Belongs.{IsClassGraph};
 ghost use Rattle.scope_check.specs.LockCode.{AreLockWords};
@@ -8,12 +10,15 @@ ghost use Rattle.scope_check.specs.Surveys.{IsSurvey};
 ghost use Rattle.scope_check.specs.Surveys.{is_marked};
 
 use crate::case::Case;
-use crate::fields::{faulty_locks, find_seen, static_locks};
+use crate::fields::{faulty_locks, find_seen, lock_count, static_locks};
 use crate::kinds::{KindRow, kind_rows};
 use crate::lock_code::lock_words;
 use crate::names::{NameRow, name_rows};
+use act_model::{Act, act_of};
 use call_reach::{gathers, reach};
 use class_graph::ClassGraph;
+use dalvik::Ins;
+use flow_model::TagsAt;
 use ns_base::{MethodNo, OutOfMemory};
 use std::alloc::{AllocError, Global};
 use std::marker::Model;
@@ -95,6 +100,7 @@ impl Survey {
         requires { IsClassGraph case.app classes.now }
         ensures { IfOk result (λ survey. survey.case ≡ case) }
     {
+        case.told();
         let entries = case.entries(alloc)?;
         let reached = reach_of(alloc, &case, &entries)?;
         let kinds = kind_rows(alloc, &case.app, classes)?;
@@ -130,5 +136,62 @@ impl Survey {
         ensures { result ≡ is_marked self.now.reached method.0 }
     {
         self.reached[method.0 as usize]
+    }
+
+    pub fn lock_count(&self) -> u32
+        ensures { result ≡ length self.now.case.app.locks }
+    {
+        let _ = &self.case;
+        lock_count(&self.case.app)
+    }
+
+    pub fn method_count(&self) -> u32
+        ensures { result ≡ length self.now.case.app.methods }
+    {
+        let _ = &self.case;
+        self.case.app.method_count()
+    }
+
+    pub fn code_len(&self, method: MethodNo) -> u32
+        requires { method.0 < length self.now.case.app.methods }
+        ensures { result ≡ code_len self.now.case.app method.0 }
+    {
+        let _ = &self.case;
+        self.case.app.code_len(method)
+    }
+
+    /// The pc of an instruction, and the instruction.
+    pub fn ins(&self, method: MethodNo, index: u32) -> (u32, Ins)
+        requires method { method.0 < length self.now.case.app.methods }
+        requires index { index < code_len self.now.case.app method.0 }
+        ensures pc { pc_at self.now.case.app method.0 index ≡ Some result.0 }
+        ensures ins { ins_at self.now.case.app method.0 index ≡ Some result.1 }
+    {
+        let _ = &self.case;
+        self.case.app.ins(method, index)
+    }
+
+    /// What an instruction does.
+    pub fn act(&self, method: MethodNo, index: u32) -> Act
+        requires method { method.0 < length self.now.case.app.methods }
+        requires index { index < code_len self.now.case.app method.0 }
+        ensures { act_at self.now.case.app method.0 index ≡ Some result }
+    {
+        let _ = &self.case;
+        act_of(&self.case.app, method, index)
+    }
+
+    /// The tags before it.
+    pub fn row(&self, method: MethodNo, index: u32) -> TagsAt<'_>
+        ensures table { result.table.now ≡ self.now.case.tags }
+        ensures method { result.method ≡ method }
+        ensures index { result.index ≡ index }
+    {
+        let _ = &self.case;
+        TagsAt {
+            table: &self.case.tags,
+            method,
+            index,
+        }
     }
 }

@@ -1,4 +1,3 @@
-use Rattle.std.proofs.Common.{None, get_or}
 use Rattle.scope_check.specs.Answering.{MethodHas}
 use Rattle.scope_check.proofs.AnswerLaws.{method_told}
 use Rattle.scope_check.proofs.BitLaws.{none_below, one_more_below}

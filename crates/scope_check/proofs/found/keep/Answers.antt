@@ -1,5 +1,3 @@
-use Rattle.std.proofs.Common.{ap, ◌∙◌, Some, None, subst}
-use Rattle.scope_check.specs.Founds.{Keeps}
 use Rattle.scope_check.proofs.FoundLaws.{keep_none, keep_some}
 use Rattle.scope_check.proofs.found.keep.Goals as goal
 

@@ -1,4 +1,4 @@
-use Rattle.std.proofs.Common.{ℕ, arith}
+use Rattle.std.proofs.Common.{arith}
 use Rattle.scope_check.specs.Answering.{IsOwnerOf}
 use Rattle.scope_check.proofs.Rows.{row_more, row_read}
 use Rattle.scope_check.proofs.owners.owners.Goals as goal
@@ -11,6 +11,6 @@ loop-l-preserved c = record {
 
 pub returns : goal.returns
 returns c = record {
-  len = omega (arith, c.loop-l.invariant.len, c.loop-l-test.false, c.lock_count-count.ensures.count, c.loop-l.auto.l-end);
+  len = omega (arith, c.loop-l.invariant.len, c.loop-l-test.false, c.lock_count-count.ensures, c.loop-l.auto.l-end);
   each = λ l owner. row_read (IsOwnerOf c.args.survey.now) c.loop-l.owners.items c.loop-l.l l owner c.loop-l.invariant.len c.loop-l.invariant.each;
 }

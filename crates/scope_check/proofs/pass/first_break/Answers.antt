@@ -8,9 +8,9 @@ pub loop-method-init : goal.loop-method-init
 loop-method-init c = start c.args.survey.now
 
 pub loop-method-preserved : goal.loop-method-preserved
-loop-method-preserved c = c.look_over.ensures c.loop-method.invariant
+loop-method-preserved c = c.look_over-pass.ensures c.loop-method.invariant
 
 pub returns : goal.returns
 returns c =
     let all : c.loop-method.method ≡ length c.args.survey.now.case.app.methods = omega (arith, c.loop-method-test.false, c.loop-method.auto.method-end, c.method_count-method-end.ensures) in
-    first_of c.args.survey.now c.told.ensures c.told-2.ensures c.loop-method.pass (subst (λ (m : ℕ). IsPass c.args.survey.now m m 0 c.loop-method.pass) all c.loop-method.invariant)
+    first_of c.args.survey.now c.told.ensures c.loop-method.pass (subst (λ (m : ℕ). IsPass c.args.survey.now m m 0 c.loop-method.pass) all c.loop-method.invariant)
