@@ -11,8 +11,6 @@ use std::test::Fail;
 
 mod calls;
 mod hierarchy;
-mod scope;
-mod solutions;
 mod tags;
 
 // The application of a file of `data/`.
