@@ -1,4 +1,7 @@
 //! What calls can call, and what that reaches and assigns.
+ghost use Rattle.std.specs.Prelude.{◌<◌, IfOk, length};
+ghost use Rattle.app_model.specs.Targets.{IsCallGraph};
+
 use super::read_app;
 use app_model::{App, CallGraph};
 use call_targets::{assigns, reach, targets};
@@ -47,7 +50,9 @@ static ROWS: [Row; 14] = [
     ),
 ];
 
-fn graph_of(rt: &HostRuntime, app: &App) -> Result<CallGraph, Fail> {
+fn graph_of(rt: &HostRuntime, app: &App) -> Result<CallGraph, Fail>
+    ensures { IfOk result (λ graph. IsCallGraph app.now graph) }
+{
     let Ok(classes) = build(rt.alloc(), app) else {
         return Err("there is memory".into());
     };
@@ -80,22 +85,37 @@ fn each_kind_of_call_has_its_targets(rt: HostRuntime) -> Result<(), Fail> {
     Ok(())
 }
 
+// Whether these methods are marked, and no other.
+fn are_marked(marks: &[bool], methods: &[u32]) -> bool {
+    (0u32..)
+        .zip(marks.iter())
+        .all(|(method, mark)| *mark == methods.contains(&method))
+}
+
+// Whether calls reach each method from one.
+fn marks_from(rt: &HostRuntime, app: &App, graph: &CallGraph, from: u32) -> Result<Vec<bool>, Fail>
+    requires graph { IsCallGraph app.now graph.now }
+    requires from { from < length app.now.methods }
+{
+    match reach(rt.alloc(), app, graph, &[MethodNo(from)]) {
+        Ok(marks) => Ok(marks),
+        Err(_) => Err("there is memory".into()),
+    }
+}
+
 #[test]
 fn reach_follows_chains_of_callees(rt: HostRuntime) -> Result<(), Fail> {
     let app = read_app(&rt, "calls.dex")?;
     let graph = graph_of(&rt, &app)?;
-    for (from, reached) in [
-        (12, [12].as_slice()),
-        (11, &[0, 1, 2, 6, 8, 10, 11]),
-        (1, &[0, 1]),
-    ] {
-        let Ok(marks) = reach(rt.alloc(), &app, &graph, &[MethodNo(from)]) else {
-            return Err("there is memory".into());
-        };
-        for (method, mark) in (0u32..).zip(marks.iter()) {
-            assert_eq!(rt; *mark, reached.contains(&method), "{from} {method}");
-        }
+    if app.method_count() < 13 {
+        return Err("as many methods".into());
     }
+    let marks = marks_from(&rt, &app, &graph, 12)?;
+    assert!(rt; are_marked(&marks, &[12]));
+    let marks = marks_from(&rt, &app, &graph, 11)?;
+    assert!(rt; are_marked(&marks, &[0, 1, 2, 6, 8, 10, 11]));
+    let marks = marks_from(&rt, &app, &graph, 1)?;
+    assert!(rt; are_marked(&marks, &[0, 1]));
     Ok(())
 }
 
