@@ -9,17 +9,17 @@ import assemble
 import sample_dex
 
 top = pathlib.Path(__file__).resolve().parent.parent
-literal = (top / "crates/nosleep/src/tests/sample.rt").read_text()
 
 
-def in_tests(name):
-    """The bytes of a constant of the tests."""
+def in_tests(crate, name):
+    """The bytes of a constant of a crate's tests."""
+    literal = (top / "crates" / crate).read_text()
     block = re.search(rf"pub const {name}: .*?];", literal, re.DOTALL).group()
     return bytes.fromhex("".join(re.findall(r'"([0-9a-f]+)"', block)))
 
 
 stored = (top / "crates/nosleep/data/receiver.dex").read_bytes()
-for name, found in (("sample_dex.py", sample_dex.layout(*sample_dex.BODIES["worked"])), ("the tests", in_tests("RECEIVER"))):
+for name, found in (("sample_dex.py", sample_dex.layout(*sample_dex.BODIES["worked"])), ("the tests", in_tests("nosleep/src/tests/sample.rt", "RECEIVER"))):
     if found != stored:
         sys.exit(f"crates/nosleep/data/receiver.dex differs from what {name} has")
 print("the stored sample is the same in all three places")
@@ -29,6 +29,9 @@ texts = sorted(data.glob("*.txt"))
 for text in texts:
     if assemble.assemble(text.read_text()) != text.with_suffix(".dex").read_bytes():
         sys.exit(f"{text} differs from the file that was made of it")
+for file in data.glob("*.dex"):
+    if in_tests("sample_apps/src/tests/samples.rt", file.stem.upper()) != file.read_bytes():
+        sys.exit(f"{file} differs from what the tests have")
 if (data / "receiver.dex").read_bytes() != stored:
     sys.exit("crates/sample_apps/data/receiver.dex is not the stored sample")
-print(f"{len(texts)} applications are what their texts say")
+print(f"{len(texts)} applications are what their texts say, and what the tests have")

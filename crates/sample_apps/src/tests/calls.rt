@@ -3,6 +3,7 @@ ghost use Rattle.std.specs.Prelude.{◌<◌, IfOk, length};
 ghost use Rattle.app_model.specs.Targets.{IsCallGraph};
 
 use super::read_app;
+use super::samples::CALLS;
 use app_model::{App, CallGraph};
 use call_targets::{assigns, reach, targets};
 use class_graph::build;
@@ -72,7 +73,7 @@ fn are_methods(methods: &[MethodNo], numbers: &[u32]) -> bool {
 
 #[test]
 fn each_kind_of_call_has_its_targets(rt: HostRuntime) -> Result<(), Fail> {
-    let app = read_app(&rt, "calls.dex")?;
+    let app = read_app(rt.alloc(), &CALLS)?;
     let graph = graph_of(&rt, &app)?;
     for (what, (method, index), callees, outside) in ROWS.iter() {
         let method = MethodNo(*method);
@@ -105,7 +106,7 @@ fn marks_from(rt: &HostRuntime, app: &App, graph: &CallGraph, from: u32) -> Resu
 
 #[test]
 fn reach_follows_chains_of_callees(rt: HostRuntime) -> Result<(), Fail> {
-    let app = read_app(&rt, "calls.dex")?;
+    let app = read_app(rt.alloc(), &CALLS)?;
     let graph = graph_of(&rt, &app)?;
     if app.method_count() < 13 {
         return Err("as many methods".into());
@@ -121,7 +122,7 @@ fn reach_follows_chains_of_callees(rt: HostRuntime) -> Result<(), Fail> {
 
 #[test]
 fn a_store_is_assigned_by_its_method_and_its_callers(rt: HostRuntime) -> Result<(), Fail> {
-    let app = read_app(&rt, "calls.dex")?;
+    let app = read_app(rt.alloc(), &CALLS)?;
     let graph = graph_of(&rt, &app)?;
     let Ok(masks) = assigns(rt.alloc(), &app, &graph) else {
         return Err("there is memory".into());

@@ -1,5 +1,5 @@
 //! The class hierarchy of one receiver: it is made, and answers.
-use super::read_app;
+use super::{read_app, samples};
 use class_graph::{ClassGraph, Found, build};
 use ns_base::{ClassNo, FieldNo, MethodNo, NameNo, ProtoNo, TypeNo};
 use std::test::Fail;
@@ -25,7 +25,7 @@ fn tells_subtypes(graph: &ClassGraph) -> bool {
 
 #[test]
 fn a_hierarchy_is_made_and_answers(rt: HostRuntime) -> Result<(), Fail> {
-    let app = read_app(&rt, "receiver.dex")?;
+    let app = read_app(rt.alloc(), &samples::RECEIVER)?;
     let graph = build(rt.alloc(), &app).ok().ok_or("there is memory")?;
     assert!(rt; tells_subtypes(&graph));
     let class = ClassNo(0);

@@ -1,10 +1,11 @@
 //! Tags before instructions, through calls and along lists.
 use super::read_app;
-use crate::{Stop, tags_of};
+use super::samples::{INNER_CLASS, TAGS};
+use crate::tags_of;
 use app_model::Tag;
-use ns_base::{Counted, LockNo, MethodNo};
+use ns_base::{LockNo, MethodNo};
+use std::alloc::Global;
 use std::test::Fail;
-use tag_flow::TagFault;
 
 const RECEIVER: &str = "[[component]]\nkind = \"receiver\"\nclass = \"Lapp/R;\"\n";
 
@@ -67,13 +68,13 @@ static UNLISTED: [Row; 2] = [
 
 // What is the first row with another tag.
 fn first_wrong(
-    rt: &HostRuntime,
-    file: &str,
+    alloc: Global,
+    digits: &[&str],
     list: &str,
     rows: &[Row],
 ) -> Result<Option<&'static str>, Fail> {
-    let app = read_app(rt, file)?;
-    let Ok(table) = tags_of(rt.alloc(), &app, list.as_bytes()) else {
+    let app = read_app(alloc, digits)?;
+    let Ok(table) = tags_of(alloc, &app, list.as_bytes()) else {
         return Err("there is memory".into());
     };
     for (what, (method, index, register), tag) in rows.iter() {
@@ -86,9 +87,12 @@ fn first_wrong(
 
 #[test]
 fn tags_follow_calls_and_callees(rt: HostRuntime) -> Result<(), Fail> {
-    assert_eq!(rt; first_wrong(&rt, "tags.dex", RECEIVER, &IN_RECEIVER)?, None);
     assert_eq!(rt;
-        first_wrong(&rt, "inner_class.dex", ACTIVITY, &IN_ACTIVITY)?,
+        first_wrong(rt.alloc(), &TAGS, RECEIVER, &IN_RECEIVER)?,
+        None
+    );
+    assert_eq!(rt;
+        first_wrong(rt.alloc(), &INNER_CLASS, ACTIVITY, &IN_ACTIVITY)?,
         None
     );
     Ok(())
@@ -96,14 +100,6 @@ fn tags_follow_calls_and_callees(rt: HostRuntime) -> Result<(), Fail> {
 
 #[test]
 fn nothing_is_known_where_no_callback_is_listed(rt: HostRuntime) -> Result<(), Fail> {
-    assert_eq!(rt; first_wrong(&rt, "tags.dex", "", &UNLISTED)?, None);
-    Ok(())
-}
-
-#[test]
-fn a_row_more_than_the_limit_of_cells_is_refused(rt: HostRuntime) -> Result<(), Fail> {
-    let app = read_app(&rt, "wide.dex")?;
-    let stopped = tags_of(rt.alloc(), &app, RECEIVER.as_bytes());
-    assert!(rt; matches!(stopped, Err(Stop::Tags(TagFault::Limit(Counted::TagCells)))));
+    assert_eq!(rt; first_wrong(rt.alloc(), &TAGS, "", &UNLISTED)?, None);
     Ok(())
 }
