@@ -12,22 +12,24 @@ ghost use Rattle.app_model.specs.Targets.{IsCallGraph};
 ghost use Rattle.class_graph.specs.Belongs.{IsClassGraph};
 
 use app_link::link;
-use app_model::{App, CallGraph, ComponentTable, TagTable};
+use app_model::{App, CallGraph, ComponentTable, Subject, TagTable};
 use call_targets::targets;
 use class_graph::{ClassGraph, build};
 use component_list::{bind_list, read_list};
 use dex_file::{DexParts, read_dex};
+use scope_check::{ScopeFault, scope};
 use std::alloc::{AllocError, Global};
 use tag_flow::{TagFault, tags};
 
 #[cfg(test)]
 mod tests;
 
-/// Why there are no tags. Whatever comes before them counts as want of memory.
+/// Why there is no subject. Whatever comes before its tags counts as want of memory.
 #[derive(Drop)]
 pub enum Stop {
     Early,
     Tags(TagFault),
+    Scope(ScopeFault),
 }
 
 fn link_parts(alloc: Global, file: DexParts) -> Result<App, AllocError>
@@ -99,5 +101,28 @@ pub fn tags_of(alloc: Global, app: &App, text: &[u8]) -> Result<TagTable, Stop>
     match tags(alloc, app, &classes, &graph, &list) {
         Ok(table) => Ok(table),
         Err(fault) => Err(Stop::Tags(fault)),
+    }
+}
+
+/// The subject of an application under a list.
+pub fn subject_of(alloc: Global, app: App, text: &[u8]) -> Result<Subject, Stop>
+    requires { sites_below app (length app.methods) ≤ limit_of Sites }
+{
+    let Ok(classes) = build(alloc, &app) else {
+        return Err(Stop::Early);
+    };
+    let Ok(graph) = calls_of(alloc, &app, &classes) else {
+        return Err(Stop::Early);
+    };
+    let Ok(list) = list_of(alloc, &app, &classes, text) else {
+        return Err(Stop::Early);
+    };
+    let table = match tags(alloc, &app, &classes, &graph, &list) {
+        Ok(table) => table,
+        Err(fault) => return Err(Stop::Tags(fault)),
+    };
+    match scope(alloc, app, &classes, graph, list, table) {
+        Ok(subject) => Ok(subject),
+        Err(fault) => Err(Stop::Scope(fault)),
     }
 }

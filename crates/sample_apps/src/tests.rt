@@ -12,6 +12,8 @@ use std::test::Fail;
 mod calls;
 mod hierarchy;
 mod samples;
+mod scope;
+mod solutions;
 mod tags;
 
 // The application of a file, which is given by its digits.

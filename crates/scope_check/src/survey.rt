@@ -1,0 +1,197 @@
+//! All that is known before the rules are looked at.
+ghost use Rattle.std.specs.Prelude.{◌≡◌, ◌<◌, IfOk, Some, length};
+ghost use Rattle.act_model.specs.Acts.{act_at};
+ghost use Rattle.app_model.specs.Components.{entries_of};
+ghost use Rattle.app_model.specs.Words.{code_len, ins_at, pc_at};
+ghost use Rattle.call_reach.specs.Starts.{AreGathered, AreReached};
+ghost use Rattle.class_graph.specs.Belongs.{IsClassGraph};
+ghost use Rattle.scope_check.specs.LockCode.{AreLockWords};
+ghost use Rattle.scope_check.specs.Surveys.{IsSurvey};
+ghost use Rattle.scope_check.specs.Surveys.{is_marked};
+
+use crate::case::Case;
+use crate::fields::{faulty_locks, find_seen, lock_count, static_locks};
+use crate::kinds::{KindRow, kind_rows};
+use crate::lock_code::lock_words;
+use crate::names::{NameRow, name_rows};
+use act_model::{Act, act_of};
+use call_reach::{gathers, reach};
+use class_graph::ClassGraph;
+use dalvik::Ins;
+use flow_model::TagsAt;
+use ns_base::{MethodNo, OutOfMemory};
+use std::alloc::{AllocError, Global};
+use std::marker::Model;
+
+/// A case; the methods of its callbacks, and whether these reach each method; a row for each type and each name; a word
+/// for each method on its own lock instructions, and one on those of its reach. `statics` has the static lock fields,
+/// `accessed` those that reached code accesses, `faulty` the instance ones that have not their one owner.
+#[derive(Drop)]
+pub(crate) struct Survey {
+    pub case: Case,
+    pub entries: Vec<MethodNo>,
+    pub reached: Vec<bool>,
+    pub kinds: Vec<KindRow>,
+    pub names: Vec<NameRow>,
+    pub own: Vec<u64>,
+    pub below: Vec<u64>,
+    pub statics: u64,
+    pub accessed: u64,
+    pub faulty: u64,
+}
+
+impl Model for Survey {
+    ghost use Rattle.scope_check.specs.Surveys.{SurveyParts, IsSurvey};
+
+    ghost Value = { SurveyParts };
+
+    ghost view = { λ s. record {
+      case = s.case;
+      entries = s.entries.items;
+      reached = s.reached.items;
+      kinds = s.kinds.items;
+      names = s.names.items;
+      own = s.own.items;
+      below = s.below.items;
+      statics = s.statics;
+      accessed = s.accessed;
+      faulty = s.faulty;
+    } };
+
+    ghost invariant = { λ s. IsSurvey (record {
+      case = s.case;
+      entries = s.entries.items;
+      reached = s.reached.items;
+      kinds = s.kinds.items;
+      names = s.names.items;
+      own = s.own.items;
+      below = s.below.items;
+      statics = s.statics;
+      accessed = s.accessed;
+      faulty = s.faulty;
+    }) };
+}
+
+fn reach_of(alloc: Global, case: &Case, entries: &[MethodNo]) -> Result<Vec<bool>, AllocError>
+    requires { entries.now ≡ entries_of case.now.list }
+    ensures { IfOk result (λ marks. AreReached case.now.app case.now.graph (entries_of case.now.list) marks.items) }
+{
+    case.told();
+    match reach(alloc, &case.app, &case.graph, entries) {
+        Ok(marks) => Ok(marks),
+        Err(OutOfMemory) => Err(AllocError),
+    }
+}
+
+fn words_below(alloc: Global, case: &Case, own: &[u64]) -> Result<Vec<u64>, AllocError>
+    requires { AreLockWords case.now.app own.now }
+    ensures { IfOk result (λ words. AreGathered case.now.app case.now.graph own.now words.items) }
+{
+    case.told();
+    let own = own.to_vec(alloc)?;
+    match gathers(alloc, &case.app, &case.graph, own) {
+        Ok(words) => Ok(words),
+        Err(OutOfMemory) => Err(AllocError),
+    }
+}
+
+impl Survey {
+    pub fn new(alloc: Global, case: Case, classes: &ClassGraph) -> Result<Survey, AllocError>
+        requires { IsClassGraph case.app classes.now }
+        ensures { IfOk result (λ survey. survey.case ≡ case) }
+    {
+        case.told();
+        let entries = case.entries(alloc)?;
+        let reached = reach_of(alloc, &case, &entries)?;
+        let kinds = kind_rows(alloc, &case.app, classes)?;
+        let names = name_rows(alloc, &case.app)?;
+        let own = lock_words(alloc, &case.app, &names)?;
+        let below = words_below(alloc, &case, &own)?;
+        let seen = find_seen(&case.app, &kinds, &reached);
+        let faulty = faulty_locks(&case, classes, seen.made);
+        Ok(Survey {
+            entries,
+            reached,
+            kinds,
+            names,
+            own,
+            below,
+            statics: static_locks(&case.app),
+            accessed: seen.accessed,
+            faulty,
+            case,
+        })
+    }
+
+    /// What holds of each survey.
+    pub fn told(&self)
+        ensures { IsSurvey self.now }
+    {
+        let _ = &self.case;
+    }
+
+    /// Whether the callbacks reach a method.
+    pub fn reaches(&self, method: MethodNo) -> bool
+        requires { method.0 < length self.now.case.app.methods }
+        ensures { result ≡ is_marked self.now.reached method.0 }
+    {
+        self.reached[method.0 as usize]
+    }
+
+    pub fn lock_count(&self) -> u32
+        ensures { result ≡ length self.now.case.app.locks }
+    {
+        let _ = &self.case;
+        lock_count(&self.case.app)
+    }
+
+    pub fn method_count(&self) -> u32
+        ensures { result ≡ length self.now.case.app.methods }
+    {
+        let _ = &self.case;
+        self.case.app.method_count()
+    }
+
+    pub fn code_len(&self, method: MethodNo) -> u32
+        requires { method.0 < length self.now.case.app.methods }
+        ensures { result ≡ code_len self.now.case.app method.0 }
+    {
+        let _ = &self.case;
+        self.case.app.code_len(method)
+    }
+
+    /// The pc of an instruction, and the instruction.
+    pub fn ins(&self, method: MethodNo, index: u32) -> (u32, Ins)
+        requires method { method.0 < length self.now.case.app.methods }
+        requires index { index < code_len self.now.case.app method.0 }
+        ensures pc { pc_at self.now.case.app method.0 index ≡ Some result.0 }
+        ensures ins { ins_at self.now.case.app method.0 index ≡ Some result.1 }
+    {
+        let _ = &self.case;
+        self.case.app.ins(method, index)
+    }
+
+    /// What an instruction does.
+    pub fn act(&self, method: MethodNo, index: u32) -> Act
+        requires method { method.0 < length self.now.case.app.methods }
+        requires index { index < code_len self.now.case.app method.0 }
+        ensures { act_at self.now.case.app method.0 index ≡ Some result }
+    {
+        let _ = &self.case;
+        act_of(&self.case.app, method, index)
+    }
+
+    /// The tags before it.
+    pub fn row(&self, method: MethodNo, index: u32) -> TagsAt<'_>
+        ensures table { result.table.now ≡ self.now.case.tags }
+        ensures method { result.method ≡ method }
+        ensures index { result.index ≡ index }
+    {
+        let _ = &self.case;
+        TagsAt {
+            table: &self.case.tags,
+            method,
+            index,
+        }
+    }
+}

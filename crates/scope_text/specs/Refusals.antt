@@ -1,0 +1,13 @@
+-- The refusal of an application that is out of scope.
+use Rattle.std.specs.Prelude.{ℕ, List, [], ◌∷◌, ◌++◌, codes, decimal}
+use Rattle.scope_check.specs.declared.scoping.ScopeFault.{ScopeFault}
+use Rattle.scope_check.specs.declared.scoping.ScopeFault.TheVariants.{Rule, Memory}
+use Rattle.report_text.specs.Heads.{member_text}
+use Rattle.report_text.specs.Numbers.{numbers_text}
+use Rattle.report_text.specs.Texts.{line}
+
+-- the rule, class and name of the method, its number and the pc; nothing where there is no rule
+abbrev pub refusal_text : ScopeFault → List ℕ
+refusal_text (Rule rule method pc class name) =
+    line (codes "refused N" ++ decimal rule ++ codes " " ++ member_text class.items name.items ++ numbers_text (method.0 ∷ pc ∷ []))
+refusal_text Memory = []
