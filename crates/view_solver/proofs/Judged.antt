@@ -73,7 +73,7 @@ module _ (x : SubjectParts) (l : ℕ) (t : Facts) (c k : ℕ) where
   violates_below s v = ((mask_true (exits_at x.list c) k v.exit).0, (mask_true held_statuses s v.held).0)
 
 -- ---- lists
-same_violation : (v w : Violation) → v.component ≡ w.component → v.callback ≡ w.callback → v.lock ≡ w.lock → v.status ≡ w.status → v ≡ w
+pub same_violation : (v w : Violation) → v.component ≡ w.component → v.callback ≡ w.callback → v.lock ≡ w.lock → v.status ≡ w.status → v ≡ w
 same_violation v w a b d e = rw (a, b, d, e) refl
 
 comes_before : (v w : Violation) → v.lock ≡ w.lock → v.callback < 8 → v.status < 8 → w.callback < 8 → w.status < 8 → number_of v < number_of w → ComesBefore v w
@@ -166,11 +166,18 @@ violation_by x l P Q to c k s v = record {
 }
 
 -- by the least solution they are derived
+pub derived_violation : (x : SubjectParts) (l : ℕ) (set : Set) (c k s : ℕ) → IsLeast (Rules x l) none_given set → IsViolation x (Carries x l) l (HasAll set) c k s → IsViolation x (Carries x l) l (Derived (Rules x l) none_given) c k s
+derived_violation x l set c k s least v = violation_by x l (HasAll set) (Derived (Rules x l) none_given) (λ fs has. all_derived (Rules x l) none_given set least.sound fs has) c k s v
+
+pub given_violation : (x : SubjectParts) (l : ℕ) (set : Set) (c k s : ℕ) → IsLeast (Rules x l) none_given set → IsViolation x (Carries x l) l (Derived (Rules x l) none_given) c k s → IsViolation x (Carries x l) l (HasAll set) c k s
+given_violation x l set c k s least v =
+    violation_by x l (Derived (Rules x l) none_given) (HasAll set) (λ fs d. in_closed (Rules x l) none_given set (λ f given. absurd (cc)) (least_closed (Rules x l) none_given set least) d) c k s v
+
 pub all_derivable : (x : SubjectParts) (l : ℕ) (set : Set) (vs : List Violation) → IsLeast (Rules x l) none_given set → AreViolationsBy x l (HasAll set) vs → AreViolationsBy x l (Derived (Rules x l) none_given) vs
 all_derivable x l set vs least by = record {
   ordered = by.ordered;
   exact = λ v. (
-    (λ h. let z = (by.exact v).0 h in (z.0, violation_by x l (HasAll set) (Derived (Rules x l) none_given) (λ fs has. all_derived (Rules x l) none_given set least.sound fs has) _ _ _ z.1)),
-    (λ z. (by.exact v).1 (z.0, violation_by x l (Derived (Rules x l) none_given) (HasAll set) (λ fs d. in_closed (Rules x l) none_given set (λ f given. absurd (cc)) (least_closed (Rules x l) none_given set least) d) _ _ _ z.1)),
+    (λ h. let z = (by.exact v).0 h in (z.0, derived_violation x l set v.component v.callback v.status least z.1)),
+    (λ z. (by.exact v).1 (z.0, given_violation x l set v.component v.callback v.status least z.1)),
   );
 }

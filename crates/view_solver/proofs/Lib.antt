@@ -5,3 +5,4 @@ pub mod Moves
 pub mod Closed
 pub mod Rounds
 pub mod Judged
+pub mod Reported

@@ -69,7 +69,8 @@ fn exits(subject: &Subject, component: ComponentNo) -> u8
     subject.list.rows[component.0 as usize].exits
 }
 
-fn bad_ends(
+// The statuses at which a callback of a component ends badly.
+pub fn bad_ends(
     subject: &Subject,
     lock: LockNo,
     solution: &Solution,
@@ -90,7 +91,7 @@ fn bad_ends(
     held_test(ends(subject, lock, solution, component, callback)).nonzero
 }
 
-fn push_if(found: &mut Vec<Violation>, mask: u8, violation: Violation) -> Result<(), AllocError>
+pub fn push_if(found: &mut Vec<Violation>, mask: u8, violation: Violation) -> Result<(), AllocError>
     requires { violation.status < 8 }
     ensures { IfOk result (λ done. found.new.items ≡ found.old.items ++ one_if (in_mask mask violation.status) violation) }
 {

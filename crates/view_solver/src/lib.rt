@@ -2,14 +2,16 @@
 //!
 //! - `edges` has the edges of a component's lifecycle, `carrying` where they lead the statuses.
 //! - `moving` applies the rules between callbacks; `solving` takes turns with those inside.
-//! - `judging` lists the violations.
+//! - `judging` lists the violations of a lock field, `listing` those of all.
 #![tactic(auto)]
 
 mod carrying;
 mod edges;
 mod judging;
+mod listing;
 mod moving;
 mod solving;
 
 pub use judging::violations;
+pub use listing::all_violations;
 pub use solving::solve;

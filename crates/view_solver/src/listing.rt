@@ -1,0 +1,190 @@
+//! The violations of all lock fields, in the order of reports. One lock field is solved at a time, and of its solution the
+//! statuses are kept at which callbacks end badly.
+ghost use Rattle.std.specs.Prelude.{◌≡◌, ◌<◌, ◌+◌, ◌*◌, IfOk, length, map};
+ghost use Rattle.app_model.specs.Subject.{slot_count};
+ghost use Rattle.flow_model.specs.Policy.{AreViolations, IsDerivableViolation};
+ghost use Rattle.solution.specs.Words.{IsMask};
+ghost use Rattle.solver.specs.Turns.{AreFacts};
+ghost use Rattle.view_solver.specs.Reported.{AreAllMasks, AreLockMasks, AreMasksTo, AreReported};
+
+use crate::edges::component_count;
+use crate::judging::{bad_ends, push_if};
+use crate::solving::solve;
+use app_model::Subject;
+use flow_model::{StatusRows, Violation};
+use ns_base::{ComponentNo, LockNo, OutOfMemory};
+use solution::Solution;
+use std::alloc::{AllocError, Global};
+
+fn push_masks(
+    subject: &Subject,
+    lock: LockNo,
+    solution: &Solution,
+    masks: &mut Vec<u8>,
+    component: ComponentNo,
+) -> Result<(), AllocError>
+    requires facts { AreFacts subject.now lock.0 solution.now }
+    requires component { component.0 < length subject.now.list }
+    requires masks { AreMasksTo subject.now lock.0 solution.now (8 * component.0) masks.old.items }
+    ensures { IfOk result (λ done. AreMasksTo subject.now lock.0 solution.now (8 * (component.0 + 1)) masks.new.items) }
+{
+    for callback in 0..8u32 {
+        masks.push(bad_ends(subject, lock, solution, component, callback))?;
+    }
+    Ok(())
+}
+
+// Of each component and callback the statuses at which it ends badly.
+fn masks_of(
+    alloc: Global,
+    subject: &Subject,
+    lock: LockNo,
+    solution: &Solution,
+) -> Result<Vec<u8>, AllocError>
+    requires { AreFacts subject.now lock.0 solution.now }
+    ensures { IfOk result (λ masks. AreMasksTo subject.now lock.0 solution.now (8 * length subject.now.list) masks.items) }
+{
+    let mut masks = Vec::new(alloc);
+    for component in 0..component_count(subject) {
+        push_masks(subject, lock, solution, &mut masks, ComponentNo(component))?;
+    }
+    Ok(masks)
+}
+
+// The same by the least solution, which is let go then.
+fn lock_masks(alloc: Global, subject: &Subject, lock: LockNo) -> Result<Vec<u8>, AllocError>
+    requires { lock.0 < slot_count subject.now }
+    ensures { IfOk result (λ masks. AreLockMasks subject.now lock.0 masks.items) }
+{
+    subject.told();
+    let mut rows = StatusRows::new();
+    match solve(alloc, subject, lock, &mut rows) {
+        Ok(solution) => masks_of(alloc, subject, lock, &solution),
+        Err(OutOfMemory) => Err(AllocError),
+    }
+}
+
+fn all_masks(alloc: Global, subject: &Subject) -> Result<Vec<Vec<u8>>, AllocError>
+    ensures { IfOk result (λ all. AreAllMasks subject.now (slot_count subject.now) (map (λ masks. masks.items) all.items)) }
+{
+    let locks = subject.lock_count();
+    let mut all = Vec::with_capacity(alloc, locks as usize)?;
+    for lock in 0..locks {
+        all.push(lock_masks(alloc, subject, LockNo(lock))?)?;
+    }
+    Ok(all)
+}
+
+// The statuses at which a callback ends badly for a lock field.
+fn mask_at(
+    subject: &Subject,
+    all: &[Vec<u8>],
+    component: ComponentNo,
+    callback: u32,
+    lock: LockNo,
+) -> u8
+    requires masks { AreAllMasks subject.now (slot_count subject.now) (map (λ masks. masks.items) all.now) }
+    requires component { component.0 < length subject.now.list }
+    requires callback { callback < 8 }
+    requires lock { lock.0 < slot_count subject.now }
+    ensures { IsMask (IsDerivableViolation subject.now lock.0 component.0 callback) result }
+{
+    let _ = subject;
+    all[lock.0 as usize][8 * component.0 as usize + callback as usize]
+}
+
+fn list_lock(
+    subject: &Subject,
+    all: &[Vec<u8>],
+    found: &mut Vec<Violation>,
+    component: ComponentNo,
+    callback: u32,
+    lock: LockNo,
+) -> Result<(), AllocError>
+    requires masks { AreAllMasks subject.now (slot_count subject.now) (map (λ masks. masks.items) all.now) }
+    requires component { component.0 < length subject.now.list }
+    requires callback { callback < 8 }
+    requires lock { lock.0 < slot_count subject.now }
+    requires reported { AreReported subject.now (4096 * component.0 + 512 * callback + 8 * lock.0) found.old.items }
+    ensures { IfOk result (λ done. AreReported subject.now (4096 * component.0 + 512 * callback + 8 * (lock.0 + 1)) found.new.items) }
+{
+    subject.told();
+    let mask = mask_at(subject, all, component, callback, lock);
+    for status in 0..8u8 {
+        let violation = Violation {
+            component: component.0,
+            callback,
+            lock: lock.0,
+            status,
+        };
+        push_if(found, mask, violation)?;
+    }
+    Ok(())
+}
+
+fn list_callback(
+    subject: &Subject,
+    all: &[Vec<u8>],
+    found: &mut Vec<Violation>,
+    component: ComponentNo,
+    callback: u32,
+) -> Result<(), AllocError>
+    requires masks { AreAllMasks subject.now (slot_count subject.now) (map (λ masks. masks.items) all.now) }
+    requires component { component.0 < length subject.now.list }
+    requires callback { callback < 8 }
+    requires reported { AreReported subject.now (4096 * component.0 + 512 * callback) found.old.items }
+    ensures { IfOk result (λ done. AreReported subject.now (4096 * component.0 + 512 * (callback + 1)) found.new.items) }
+{
+    subject.told();
+    for lock in 0..subject.lock_count() {
+        list_lock(subject, all, found, component, callback, LockNo(lock))?;
+    }
+    Ok(())
+}
+
+fn list_component(
+    subject: &Subject,
+    all: &[Vec<u8>],
+    found: &mut Vec<Violation>,
+    component: ComponentNo,
+) -> Result<(), AllocError>
+    requires masks { AreAllMasks subject.now (slot_count subject.now) (map (λ masks. masks.items) all.now) }
+    requires component { component.0 < length subject.now.list }
+    requires reported { AreReported subject.now (4096 * component.0) found.old.items }
+    ensures { IfOk result (λ done. AreReported subject.now (4096 * (component.0 + 1)) found.new.items) }
+{
+    for callback in 0..8u32 {
+        list_callback(subject, all, found, component, callback)?;
+    }
+    Ok(())
+}
+
+fn list_all(
+    alloc: Global,
+    subject: &Subject,
+    all: &[Vec<u8>],
+) -> Result<Vec<Violation>, AllocError>
+    requires { AreAllMasks subject.now (slot_count subject.now) (map (λ masks. masks.items) all.now) }
+    ensures { IfOk result (λ found. AreReported subject.now (4096 * length subject.now.list) found.items) }
+{
+    let mut found = Vec::new(alloc);
+    for component in 0..component_count(subject) {
+        list_component(subject, all, &mut found, ComponentNo(component))?;
+    }
+    Ok(found)
+}
+
+/// The violations that the flow rules derive for a subject, of every lock field, in the order of reports: component,
+/// callback, lock, status.
+pub fn all_violations(alloc: Global, subject: &Subject) -> Result<Vec<Violation>, OutOfMemory>
+    ensures { IfOk result (λ found. AreViolations subject.now found.items) }
+{
+    subject.told();
+    let Ok(all) = all_masks(alloc, subject) else {
+        return Err(OutOfMemory);
+    };
+    match list_all(alloc, subject, &all) {
+        Ok(found) => Ok(found),
+        Err(AllocError) => Err(OutOfMemory),
+    }
+}
