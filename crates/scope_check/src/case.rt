@@ -1,8 +1,10 @@
 //! What is looked at.
 ghost use Rattle.std.specs.Prelude.{◌≡◌, ◌++◌, IfOk, Option, filter_map};
 ghost use Rattle.ns_base.specs.declared.rows.MethodNo.{MethodNo};
-ghost use Rattle.app_model.specs.Components.{entries_of};
-ghost use Rattle.scope_check.specs.Cases.{IsCase};
+ghost use Rattle.app_model.specs.Components.{BelongsTo, entries_of};
+ghost use Rattle.app_model.specs.Targets.{IsCallGraph};
+ghost use Rattle.flow_model.specs.TagFlow.{IsTagTableOf};
+ghost use Rattle.scope_check.specs.Cases.{IsCase, candidate};
 
 use app_model::{App, CallGraph, ComponentTable, TagTable};
 use ns_base::MethodNo;
@@ -30,6 +32,21 @@ impl Model for Case {
 }
 
 impl Case {
+    pub fn new(app: App, graph: CallGraph, list: ComponentTable, tags: TagTable) -> Case
+        requires graph { IsCallGraph app graph }
+        requires list { BelongsTo app list }
+        requires tags { IsTagTableOf app graph list tags }
+        ensures { result ≡ candidate app graph list tags }
+    {
+        app.told();
+        Case {
+            app,
+            graph,
+            list,
+            tags,
+        }
+    }
+
     /// What holds of each case.
     pub fn told(&self)
         ensures { IsCase self.now }

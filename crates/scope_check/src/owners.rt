@@ -44,7 +44,7 @@ fn owner_of(survey: &Survey, classes: &ClassGraph, lock: LockNo) -> Option<Compo
 {
     let _ = &survey.case;
     match field_of_lock(&survey.case.app, lock) {
-        Some(field) if !is_static(field) && has_lock(survey.accessed, lock) => {
+        Some(field) if !is_static(field) && has_lock(survey.locks.accessed, lock) => {
             owner_of_field(survey, classes, field)
         }
         _ => None,
