@@ -19,17 +19,18 @@ use Rattle.flow_model.specs.Breaks as breaks
 use Rattle.flow_model.proofs.TestLaws.{below_some}
 use Rattle.scope_check.specs.declared.found.Found.{Found}
 use Rattle.scope_check.specs.declared.pass.Pass.{Pass}
-use Rattle.scope_check.specs.Cases.{IsCase}
+use Rattle.scope_facts.specs.Cases.{IsCase}
 use Rattle.scope_check.specs.Founds.{Covers, IsFound}
-use Rattle.scope_check.specs.LockCode.{is_other}
+use Rattle.scope_facts.specs.LockCode.{is_other}
 use Rattle.scope_check.specs.Passing.{IsFirst, IsPass}
-use Rattle.scope_check.specs.Surveys.{IsSurvey, SurveyParts, is_marked}
+use Rattle.scope_facts.specs.Fields.{is_marked}
+use Rattle.scope_check.specs.Surveys.{IsSurvey, SurveyParts}
 use Rattle.scope_check.specs.Tests.{differ, head_tests, is_entry, is_hosted, is_unfit, makes_thread, reached_tests, tests_at, unreached_tests}
-use Rattle.scope_check.proofs.Entries.{callback_there}
-use Rattle.scope_check.proofs.FieldLaws.{field_below}
+use Rattle.scope_facts.proofs.Entries.{callback_there}
+use Rattle.scope_facts.proofs.FieldLaws.{field_below}
 use Rattle.scope_check.proofs.Known.{entered, entered_within, marked, static_known, told_in_mask}
 use Rattle.scope_check.proofs.Steps.{reached_at, unreached_at}
-use Rattle.scope_check.proofs.ThreadLaws.{and_true, both}
+use Rattle.scope_facts.proofs.ThreadLaws.{and_true, both}
 use Rattle.scope_check.proofs.Touching.{any_other}
 use Rattle.scope_check.proofs.Within.{callback_named, code_within, lock_within, made_within, named_within, native_within, pc_within}
 

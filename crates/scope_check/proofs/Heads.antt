@@ -13,15 +13,16 @@ use Rattle.class_graph.proofs.Lists.{any_found}
 use Rattle.flow_model.specs.Breaks.{Breaks, Candidate, IsBelow, IsEntered, class_initialiser, inherits, initialiser, initialises, is_callback_name, is_lock_ins, is_native, method_name, touches}
 use Rattle.flow_model.specs.Breaks as breaks
 use Rattle.flow_model.proofs.TestLaws.{some_below}
-use Rattle.scope_check.specs.LockCode.{is_other}
-use Rattle.scope_check.specs.Surveys.{IsSurvey, SurveyParts, is_marked}
+use Rattle.scope_facts.specs.LockCode.{is_other}
+use Rattle.scope_facts.specs.Fields.{is_marked}
+use Rattle.scope_check.specs.Surveys.{IsSurvey, SurveyParts}
 use Rattle.scope_check.specs.Tests.{head_tests, is_entry, is_hosted, is_initialiser, is_unlisted}
-use Rattle.scope_check.proofs.BitLaws.{no_bit_told}
-use Rattle.scope_check.proofs.Entries.{there_callback}
+use Rattle.scope_facts.proofs.BitLaws.{no_bit_told}
+use Rattle.scope_facts.proofs.Entries.{there_callback}
 use Rattle.scope_check.proofs.Known.{marked}
 use Rattle.scope_check.proofs.Sound.{either, not_true, true_of}
 use Rattle.scope_check.proofs.Steps.{not_false}
-use Rattle.scope_check.proofs.ThreadLaws.{and_true, both}
+use Rattle.scope_facts.proofs.ThreadLaws.{and_true, both}
 use Rattle.scope_check.proofs.Touching.{any_other}
 
 pub has_within : (words : List ℕ) (n b : ℕ) → Has words n b → n < length words

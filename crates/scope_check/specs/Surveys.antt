@@ -1,24 +1,20 @@
 -- All that is known before the rules are looked at.
-use Rattle.std.specs.Prelude.{ℕ, ◌≡◌, List, length, Bool, false, slice_index_or}
+use Rattle.std.specs.Prelude.{ℕ, ◌≡◌, List, length, Bool}
 use Rattle.ns_base.specs.declared.rows.MethodNo.{MethodNo}
 use Rattle.app_model.specs.Components.{entries_of}
 use Rattle.app_model.specs.Parts.{AppParts}
 use Rattle.call_reach.specs.Starts.{AreGathered, AreReached}
 use Rattle.flow_model.specs.Breaks.{Candidate}
-use Rattle.scope_check.specs.declared.kinds.KindRow.{KindRow}
-use Rattle.scope_check.specs.declared.names.NameRow.{NameRow}
+use Rattle.scope_facts.specs.declared.kinds.KindRow.{KindRow}
+use Rattle.scope_facts.specs.declared.names.NameRow.{NameRow}
 use Rattle.scope_check.specs.declared.survey.Callbacks.{Callbacks}
 use Rattle.scope_check.specs.declared.survey.LockSets.{LockSets}
 use Rattle.scope_check.specs.declared.survey.Tables.{Tables}
-use Rattle.scope_check.specs.Bits.{HoldsBelow, Tells}
-use Rattle.scope_check.specs.Cases.{IsCase}
-use Rattle.scope_check.specs.Fields.{AccessesIn, InReached, IsFaulty, IsStatic, MakesIn}
-use Rattle.scope_check.specs.LockCode.{AreLockWords}
-use Rattle.scope_check.specs.Texts.{AreKinds, AreNames}
-
--- method m is reached
-abbrev pub is_marked : List Bool → (m : ℕ) → Bool
-is_marked marks m = slice_index_or marks m false
+use Rattle.scope_facts.specs.Bits.{HoldsBelow, Tells}
+use Rattle.scope_facts.specs.Cases.{IsCase}
+use Rattle.scope_facts.specs.Fields.{AccessesIn, InReached, IsFaulty, IsStatic, MakesIn}
+use Rattle.scope_facts.specs.LockCode.{AreLockWords}
+use Rattle.scope_facts.specs.Texts.{AreKinds, AreNames}
 
 pub record SurveyParts : Type 0 where
   pub case : Candidate

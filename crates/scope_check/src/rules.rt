@@ -16,14 +16,9 @@ ghost use Rattle.flow_model.specs.Breaks.{passes_named};
 ghost use Rattle.flow_model.specs.Passes as passes;
 ghost use Rattle.app_model.specs.Names.{name_text};
 ghost use Rattle.scope_check.specs.Tests as spec;
-ghost use Rattle.scope_check.specs.Texts.{IsKind, IsName};
+ghost use Rattle.scope_facts.specs.Texts.{IsKind, IsName};
 ghost use Rattle.scope_check.specs.Tests.{IsCalled};
 
-use crate::bits::has_lock;
-use crate::fields::{inherits, made_type};
-use crate::kinds::{KindRow, kind_at};
-use crate::lock_code::{has_locks, has_others, is_lock_ins, name_of};
-use crate::names::NameRow;
 use crate::survey::Survey;
 use act_model::Act;
 use app_model::{App, By, Named, call_by};
@@ -31,6 +26,10 @@ use class_graph::ClassGraph;
 use dalvik::{Ins, access};
 use flow_model::{TagsAt, is_escape, is_wrong_call};
 use ns_base::{ClassNo, MethodNo, NameNo, TypeNo};
+use scope_facts::{
+    KindRow, NameRow, has_lock, has_locks, has_others, inherits, is_lock_ins, kind_at, made_type,
+    name_of,
+};
 
 /// Whether an invoke loads code, reflects, or calls a thread, by the method that it names.
 #[derive(Clone, Copy)]
@@ -171,7 +170,8 @@ impl Survey {
         let (_, ins) = self.case.app.ins(method, index);
         match self.case.app.slot(method, index) {
             Some(lock) => {
-                has_lock(self.locks.faulty, lock) || is_static_access(ins) != has_lock(self.locks.statics, lock)
+                has_lock(self.locks.faulty, lock)
+                    || is_static_access(ins) != has_lock(self.locks.statics, lock)
             }
             None => false,
         }
@@ -205,7 +205,10 @@ impl Survey {
         ensures { result ≡ spec.is_entry self.now.entries method.0 }
     {
         let _ = &self.case;
-        self.callbacks.entries.iter().any(|entry| entry.0 == method.0)
+        self.callbacks
+            .entries
+            .iter()
+            .any(|entry| entry.0 == method.0)
     }
 
     // Whether a component's class is a class, or inherits it.

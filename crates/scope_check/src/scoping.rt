@@ -8,12 +8,11 @@ ghost use Rattle.flow_model.specs.Breaks.{Breaks};
 ghost use Rattle.flow_model.specs.Breaks as breaks;
 ghost use Rattle.flow_model.specs.InScope.{IsInScope, candidate_of};
 ghost use Rattle.flow_model.specs.TagFlow.{IsTagTableOf};
-ghost use Rattle.scope_check.specs.Cases.{candidate};
+ghost use Rattle.scope_facts.specs.Cases.{candidate};
 ghost use Rattle.scope_check.specs.Causes.{IsCause, IsFaultOf};
 ghost use Rattle.scope_check.specs.Passing.{IsFirst};
 
 use crate::answers::answers;
-use crate::case::Case;
 use crate::found::Found;
 use crate::owners::owners;
 use crate::pass::first_break;
@@ -21,6 +20,7 @@ use crate::survey::Survey;
 use app_model::{App, CallGraph, ComponentTable, Subject, TagTable};
 use class_graph::ClassGraph;
 use ns_base::MethodNo;
+use scope_facts::Case;
 use std::alloc::{AllocError, Global};
 
 /// Why an application is not in scope.
@@ -100,7 +100,9 @@ fn subject_of(alloc: Global, survey: Survey, classes: &ClassGraph) -> Result<Sub
     let answers = answers(alloc, &survey)?;
     let owners = owners(alloc, &survey, classes)?;
     let Survey {
-        case, callbacks, ..
+        case,
+        callbacks,
+        ..
     } = survey;
     let Case {
         app,

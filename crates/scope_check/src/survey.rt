@@ -5,21 +5,21 @@ ghost use Rattle.app_model.specs.Components.{entries_of};
 ghost use Rattle.app_model.specs.Words.{code_len, ins_at, pc_at};
 ghost use Rattle.call_reach.specs.Starts.{AreGathered, AreReached};
 ghost use Rattle.class_graph.specs.Belongs.{IsClassGraph};
-ghost use Rattle.scope_check.specs.LockCode.{AreLockWords};
-ghost use Rattle.scope_check.specs.Surveys.{AreCallbacks, AreLockSets, AreTables, IsSurvey, is_marked};
-ghost use Rattle.scope_check.specs.Texts.{AreKinds};
+ghost use Rattle.scope_facts.specs.LockCode.{AreLockWords};
+ghost use Rattle.scope_facts.specs.Fields.{is_marked};
+ghost use Rattle.scope_check.specs.Surveys.{AreCallbacks, AreLockSets, AreTables, IsSurvey};
+ghost use Rattle.scope_facts.specs.Texts.{AreKinds};
 
-use crate::case::Case;
-use crate::fields::{faulty_locks, find_seen, lock_count, static_locks};
-use crate::kinds::{KindRow, kind_rows};
-use crate::lock_code::lock_words;
-use crate::names::{NameRow, name_rows};
 use act_model::{Act, act_of};
 use call_reach::{gathers, reach};
 use class_graph::ClassGraph;
 use dalvik::Ins;
 use flow_model::TagsAt;
 use ns_base::{MethodNo, OutOfMemory};
+use scope_facts::{
+    Case, KindRow, NameRow, faulty_locks, find_seen, kind_rows, lock_count, lock_words, name_rows,
+    static_locks,
+};
 use std::alloc::{AllocError, Global};
 use std::marker::Model;
 
