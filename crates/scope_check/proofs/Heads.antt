@@ -10,7 +10,7 @@ use Rattle.app_model.specs.Components.{ComponentParts}
 use Rattle.app_model.specs.Words.{code_len}
 use Rattle.call_reach.specs.Spread.{Has}
 use Rattle.class_graph.proofs.Lists.{any_found}
-use Rattle.flow_model.specs.Breaks.{Breaks, Candidate, IsBelow, IsEntered, class_initialiser, inherits, initialiser, initialises, is_callback_name, is_lock_ins, is_native, method_name, touches}
+use Rattle.flow_model.specs.Breaks.{Breaks, Candidate, IsBelow, IsEntered, class_initialiser, inherits, initialiser, initialises, is_callback_name, is_lock_ins, is_native, is_own_store, method_name, touches}
 use Rattle.flow_model.specs.Breaks as breaks
 use Rattle.flow_model.proofs.TestLaws.{some_below}
 use Rattle.scope_facts.specs.LockCode.{is_other}
@@ -49,7 +49,7 @@ module _ (s : SurveyParts) (inv : IsSurvey s) (m : ℕ) (low : m < length s.case
       let own_low : there.0 < length x.app.methods = (let h = has_within s.own there.0 1 there.2 in omega (arith, h, inv.own.len)) in
       let any = (inv.own.each there.0 own_low).others.0 there.2 in
       let at = some_below (is_other x.app there.0) (code_len x.app there.0) any in
-      (there.0, at.0, there.1, and_true _ _ (both _ _ at.2).0 (any_other x.app there.0 ∙ any))
+      (there.0, at.0, there.1, and_true (is_lock_ins x.app there.0 at.0) (not (initialises x.app there.0)) (both (is_lock_ins x.app there.0 at.0) (not (is_own_store x.app there.0 at.0)) at.2).0 (any_other x.app there.0 ∙ any))
 
   entry_found : is_native x.app m ≡ true → is_entry s.entries m ≡ true → Breaks x 1 m 0
   entry_found native is =

@@ -1,6 +1,5 @@
 -- A survey, from its parts.
-use Rattle.std.proofs.Common.{◌≡◌, ℕ, List, Bool, sym, subst}
-use Rattle.app_model.specs.Parts.{AppParts}
+use Rattle.std.proofs.Common.{◌≡◌, ℕ, List, Bool, subst}
 use Rattle.flow_model.specs.Breaks.{Candidate}
 use Rattle.scope_facts.specs.Bits.{Tells}
 use Rattle.scope_facts.specs.Cases.{IsCase}
