@@ -12,8 +12,8 @@ use Rattle.app_model.specs.Words.{code_len, ins_of, place_at, places_of}
 use Rattle.act_model.specs.Acts.{act_at, act_by}
 use Rattle.flow_model.specs.Policy.{acquires}
 use Rattle.scope_check.specs.Answering.{MethodHas, RowHas, WordHas}
-use Rattle.scope_check.specs.Bits.{HoldsBelow, Tells}
-use Rattle.scope_check.proofs.BitLaws.{told_as}
+use Rattle.scope_facts.specs.Bits.{HoldsBelow, Tells}
+use Rattle.scope_facts.proofs.BitLaws.{told_as}
 
 -- the word of the method at a place
 pub method_told : (words : List ℕ) (methods : List (Option MethodNo)) (k : ℕ) (d : Option MethodNo) (word : ℕ) → k < length methods → Tells word (WordHas words (get_or methods k d)) → Tells word (MethodHas words methods k)

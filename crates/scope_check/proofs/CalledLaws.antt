@@ -1,14 +1,14 @@
 -- The method that an invoke names, by its rows.
-use Rattle.std.proofs.Common.{◌≡◌, ℕ, ◌&&◌, ◌||◌, Bool, List, refl, sym, ap, ◌∙◌, subst, arith, get_or, Option, Some, None, bytes_eq, codes}
+use Rattle.std.proofs.Common.{◌≡◌, ℕ, ◌&&◌, ◌||◌, Bool, refl, ◌∙◌, Option, Some, None}
 use Rattle.app_model.specs.declared.rows.Named.{Named}
 use Rattle.app_model.specs.Names.{name_text}
 use Rattle.app_model.specs.Parts.{AppParts}
 use Rattle.flow_model.specs.Breaks as breaks
 use Rattle.flow_model.specs.Breaks.{loads_code, reflects}
-use Rattle.scope_check.specs.declared.kinds.KindRow.{KindRow}
-use Rattle.scope_check.specs.declared.names.NameRow.{NameRow}
+use Rattle.scope_facts.specs.declared.kinds.KindRow.{KindRow}
+use Rattle.scope_facts.specs.declared.names.NameRow.{NameRow}
 use Rattle.scope_check.specs.Tests.{IsCalled, is_thread_call}
-use Rattle.scope_check.specs.Texts.{AreKinds, AreNames, IsKind, IsName}
+use Rattle.scope_facts.specs.Texts.{IsKind, IsName}
 
 loads_told : (app : AppParts) (named : Named) (kind : KindRow) (name : NameRow) → IsKind app named.class.0 kind → IsName (name_text app named.name.0) name → (kind.system && name.loads) ≡ loads_code app named
 unfolding loads_code

@@ -28,7 +28,7 @@ use Rattle.class_graph.proofs.Lists.{any_found, there_at}
 use Rattle.std.specs.Option.{option_and_then}
 use Rattle.std.proofs.lemmas.List.Elements.{All-contains}
 use Rattle.scope_check.proofs.Steps.{not_false}
-use Rattle.scope_check.proofs.ThreadLaws.{both}
+use Rattle.scope_facts.proofs.ThreadLaws.{both}
 
 -- method n is not abstract
 pub record IsConcrete (app : AppParts) (n : ℕ) : Type 0 where

@@ -1,5 +1,5 @@
 -- What an application is refused for.
-use Rattle.std.proofs.Common.{◌≡◌, ℕ, Some, ap, sym, subst, ◌∙◌}
+use Rattle.std.proofs.Common.{ℕ, ap, sym, subst, ◌∙◌}
 use Rattle.ns_base.specs.declared.rows.MethodNo.{MethodNo}
 use Rattle.flow_model.specs.Breaks.{Candidate, IsFirstBreak, class_name, method_name}
 use Rattle.scope_check.specs.declared.found.Found.{Found}

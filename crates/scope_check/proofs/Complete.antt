@@ -1,17 +1,14 @@
 -- Where a rule is broken its test is passed, so that what is kept at the end is the first break.
-use Rattle.std.proofs.Common.{◌≡◌, ◌≢◌, ℕ, ◌<◌, ◌≤◌, ◌&&◌, ◌||◌, ◌==◌, ◌∷◌, [], Bool, true, false, not, List, length, refl, sym, ap, ◌∙◌, subst, ⊎_elim, inl, inr, arith, bytes_eq, codes, Contains, Option, Some, None, slice_get, slice_index, eqb-true, eq-eqb}
-use Rattle.std.specs.Prelude.{◌⊎◌}
+use Rattle.std.proofs.Common.{◌≡◌, ◌≢◌, ℕ, ◌<◌, ◌||◌, ◌==◌, [], Bool, true, false, not, List, length, refl, sym, ap, ◌∙◌, subst, inl, inr, arith, bytes_eq, Contains, Option, Some, None, slice_get, slice_index, eq-eqb}
 use Rattle.std.specs.Int.{bit_at}
 use Rattle.std.proofs.lemmas.Bool.{true≢false}
 use Rattle.std.proofs.lemmas.Slice.Eq.{bytes_eq-Decides}
 use Rattle.std.proofs.lemmas.Option.{slice_get_within}
 use Rattle.ns_base.specs.declared.rows.MethodNo.{MethodNo}
 use Rattle.app_model.specs.declared.rows.FieldRow.{FieldRow}
-use Rattle.app_model.specs.declared.rows.MethodRow.{MethodRow}
 use Rattle.app_model.specs.CallGraph.{callees_at}
-use Rattle.app_model.specs.Components.{ComponentParts, entries_of}
+use Rattle.app_model.specs.Components.{ComponentParts}
 use Rattle.app_model.specs.Masks.{in_lock_mask}
-use Rattle.app_model.specs.Slots.{slot_at}
 use Rattle.app_model.specs.Words.{code_len, ins_at, pc_at}
 use Rattle.class_graph.proofs.Lists.{any_there}
 use Rattle.flow_model.specs.Breaks.{Breaks, Candidate, IsAccess, IsBelow, IsEntered, IsMade, class_initialiser, inherits, initialiser, is_lock_ins, is_native, is_static_access, is_static_field, method_name, touches}
@@ -19,17 +16,16 @@ use Rattle.flow_model.specs.Breaks as breaks
 use Rattle.flow_model.proofs.TestLaws.{below_some}
 use Rattle.scope_check.specs.declared.found.Found.{Found}
 use Rattle.scope_check.specs.declared.pass.Pass.{Pass}
-use Rattle.scope_check.specs.Cases.{IsCase}
 use Rattle.scope_check.specs.Founds.{Covers, IsFound}
-use Rattle.scope_check.specs.LockCode.{is_other}
 use Rattle.scope_check.specs.Passing.{IsFirst, IsPass}
-use Rattle.scope_check.specs.Surveys.{IsSurvey, SurveyParts, is_marked}
-use Rattle.scope_check.specs.Tests.{differ, head_tests, is_entry, is_hosted, is_unfit, makes_thread, reached_tests, tests_at, unreached_tests}
-use Rattle.scope_check.proofs.Entries.{callback_there}
-use Rattle.scope_check.proofs.FieldLaws.{field_below}
+use Rattle.scope_facts.specs.Fields.{is_marked}
+use Rattle.scope_check.specs.Surveys.{IsSurvey, SurveyParts}
+use Rattle.scope_check.specs.Tests.{differ, is_hosted, is_unfit, makes_thread, reached_tests, unreached_tests}
+use Rattle.scope_facts.proofs.Entries.{callback_there}
+use Rattle.scope_facts.proofs.FieldLaws.{field_below}
 use Rattle.scope_check.proofs.Known.{entered, entered_within, marked, static_known, told_in_mask}
 use Rattle.scope_check.proofs.Steps.{reached_at, unreached_at}
-use Rattle.scope_check.proofs.ThreadLaws.{and_true, both}
+use Rattle.scope_facts.proofs.ThreadLaws.{and_true, both}
 use Rattle.scope_check.proofs.Touching.{any_other}
 use Rattle.scope_check.proofs.Within.{callback_named, code_within, lock_within, made_within, named_within, native_within, pc_within}
 

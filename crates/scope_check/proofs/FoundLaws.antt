@@ -1,11 +1,11 @@
 -- Broken rules in order.
-use Rattle.std.proofs.Common.{◌≡◌, ℕ, ◌<◌, ◌≤◌, ◌==◌, Bool, true, false, if◌then◌else◌, List, length, get_or, refl, sym, ap, ◌∙◌, subst, ⊎_elim, inl, inr, arith, nat_le, nat_lt, Option, Some, None, slice_get, eqb-true, eq-eqb}
+use Rattle.std.proofs.Common.{◌≡◌, ℕ, ◌<◌, ◌≤◌, ◌==◌, Bool, true, false, if◌then◌else◌, List, length, get_or, refl, sym, ap, ◌∙◌, ⊎_elim, inl, inr, arith, nat_le, nat_lt, Option, Some, None, eqb-true, eq-eqb}
 use Rattle.std.specs.Prelude.{◌⊎◌}
 use Rattle.std.proofs.lemmas.Bool.{cases_eq, cases_lt, le-leb, leb-true, lt-ltb, ltb-true, true≢false}
 use Rattle.std.proofs.lemmas.Option.{slice_get_within, get_or_from_slice_get, slice_get-get_or}
 use Rattle.ns_base.specs.declared.rows.MethodNo.{MethodNo}
 use Rattle.scope_check.specs.declared.found.Found.{Found}
-use Rattle.scope_check.specs.Founds.{Covers, IsFound, IsNotAfter, Keeps, IsLowest, comes_before, earlier}
+use Rattle.scope_check.specs.Founds.{Covers, IsNotAfter, Keeps, IsLowest, comes_before, earlier}
 
 abbrev NotAfter : Found → Found → Type 0
 NotAfter a b = IsNotAfter a.rule a.method.0 a.pc b.rule b.method.0 b.pc

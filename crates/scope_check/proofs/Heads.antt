@@ -10,18 +10,19 @@ use Rattle.app_model.specs.Components.{ComponentParts}
 use Rattle.app_model.specs.Words.{code_len}
 use Rattle.call_reach.specs.Spread.{Has}
 use Rattle.class_graph.proofs.Lists.{any_found}
-use Rattle.flow_model.specs.Breaks.{Breaks, Candidate, IsBelow, IsEntered, class_initialiser, inherits, initialiser, initialises, is_callback_name, is_lock_ins, is_native, method_name, touches}
+use Rattle.flow_model.specs.Breaks.{Breaks, Candidate, IsBelow, IsEntered, class_initialiser, inherits, initialiser, initialises, is_callback_name, is_lock_ins, is_native, is_own_store, method_name, touches}
 use Rattle.flow_model.specs.Breaks as breaks
 use Rattle.flow_model.proofs.TestLaws.{some_below}
-use Rattle.scope_check.specs.LockCode.{is_other}
-use Rattle.scope_check.specs.Surveys.{IsSurvey, SurveyParts, is_marked}
+use Rattle.scope_facts.specs.LockCode.{is_other}
+use Rattle.scope_facts.specs.Fields.{is_marked}
+use Rattle.scope_check.specs.Surveys.{IsSurvey, SurveyParts}
 use Rattle.scope_check.specs.Tests.{head_tests, is_entry, is_hosted, is_initialiser, is_unlisted}
-use Rattle.scope_check.proofs.BitLaws.{no_bit_told}
-use Rattle.scope_check.proofs.Entries.{there_callback}
+use Rattle.scope_facts.proofs.BitLaws.{no_bit_told}
+use Rattle.scope_facts.proofs.Entries.{there_callback}
 use Rattle.scope_check.proofs.Known.{marked}
 use Rattle.scope_check.proofs.Sound.{either, not_true, true_of}
 use Rattle.scope_check.proofs.Steps.{not_false}
-use Rattle.scope_check.proofs.ThreadLaws.{and_true, both}
+use Rattle.scope_facts.proofs.ThreadLaws.{and_true, both}
 use Rattle.scope_check.proofs.Touching.{any_other}
 
 pub has_within : (words : List ℕ) (n b : ℕ) → Has words n b → n < length words
@@ -48,7 +49,7 @@ module _ (s : SurveyParts) (inv : IsSurvey s) (m : ℕ) (low : m < length s.case
       let own_low : there.0 < length x.app.methods = (let h = has_within s.own there.0 1 there.2 in omega (arith, h, inv.own.len)) in
       let any = (inv.own.each there.0 own_low).others.0 there.2 in
       let at = some_below (is_other x.app there.0) (code_len x.app there.0) any in
-      (there.0, at.0, there.1, and_true _ _ (both _ _ at.2).0 (any_other x.app there.0 ∙ any))
+      (there.0, at.0, there.1, and_true (is_lock_ins x.app there.0 at.0) (not (initialises x.app there.0)) (both (is_lock_ins x.app there.0 at.0) (not (is_own_store x.app there.0 at.0)) at.2).0 (any_other x.app there.0 ∙ any))
 
   entry_found : is_native x.app m ≡ true → is_entry s.entries m ≡ true → Breaks x 1 m 0
   entry_found native is =

@@ -20,11 +20,12 @@ use Rattle.app_model.specs.Parts.{AppParts}
 use Rattle.app_model.specs.Sound.{IsSoundApp}
 use Rattle.class_graph.proofs.Lists.{same_test}
 use Rattle.flow_model.specs.Breaks.{IsEntered, field_of_lock, is_static_field}
-use Rattle.scope_check.specs.Cases.{IsCase}
-use Rattle.scope_check.specs.Surveys.{IsSurvey, SurveyParts, is_marked}
-use Rattle.scope_check.proofs.Entries.{entries_within, marked_within, reached_within}
-use Rattle.scope_check.proofs.FieldLaws.{field_below}
-use Rattle.scope_check.proofs.ThreadLaws.{and_true, both}
+use Rattle.scope_facts.specs.Cases.{IsCase}
+use Rattle.scope_facts.specs.Fields.{is_marked}
+use Rattle.scope_check.specs.Surveys.{IsSurvey, SurveyParts}
+use Rattle.scope_facts.proofs.Entries.{entries_within, marked_within, reached_within}
+use Rattle.scope_facts.proofs.FieldLaws.{field_below}
+use Rattle.scope_facts.proofs.ThreadLaws.{and_true, both}
 
 -- ---- masks
 pub in_mask_told : (mask l : ℕ) → in_lock_mask mask l ≡ true → (l < 64) × (bit_at mask l ≡ 1)

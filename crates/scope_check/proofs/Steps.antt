@@ -15,12 +15,13 @@ use Rattle.scope_check.specs.declared.found.Found.{Found}
 use Rattle.scope_check.specs.declared.pass.Pass.{Pass}
 use Rattle.scope_check.specs.Founds.{Covers, IsFound, Keeps}
 use Rattle.scope_check.specs.Passing.{IsPass, StoredBefore, has_stored}
-use Rattle.scope_check.specs.Surveys.{IsSurvey, SurveyParts, is_marked}
+use Rattle.scope_facts.specs.Fields.{is_marked}
+use Rattle.scope_check.specs.Surveys.{IsSurvey, SurveyParts}
 use Rattle.scope_check.specs.Tests.{head_tests, may_not_touch, reached_tests, tests_at, unreached_tests}
-use Rattle.scope_check.proofs.BitLaws.{no_bit_told}
+use Rattle.scope_facts.proofs.BitLaws.{no_bit_told}
 use Rattle.scope_check.proofs.Known.{entered, in_mask_told, marked, store_code, store_within, told_in_mask}
 use Rattle.scope_check.proofs.Sound.{not_true, reached_sound, true_of}
-use Rattle.scope_check.proofs.ThreadLaws.{and_true, both}
+use Rattle.scope_facts.proofs.ThreadLaws.{and_true, both}
 use Rattle.scope_check.proofs.Within.{pc_within}
 
 -- ---- order

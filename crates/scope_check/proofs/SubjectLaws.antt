@@ -21,8 +21,8 @@ use Rattle.scope_check.specs.Answering.{AreAnswers, AreOwners, RowHas, WordHas}
 use Rattle.scope_check.specs.Surveys.{IsSurvey, SurveyParts}
 use Rattle.scope_check.proofs.AnswerLaws.{acquire_code, one_only}
 use Rattle.scope_check.proofs.Callees.{callback_concrete, callee_concrete, has_body}
-use Rattle.scope_check.proofs.Entries.{callback_below, callback_there, reached_on, there_callback}
-use Rattle.scope_check.proofs.FieldLaws.{field_below}
+use Rattle.scope_facts.proofs.Entries.{callback_below, callback_there, reached_on, there_callback}
+use Rattle.scope_facts.proofs.FieldLaws.{field_below}
 use Rattle.scope_check.proofs.Heads.{has_within}
 use Rattle.scope_check.proofs.Known.{entered, entered_within, in_mask_told, marked, told_in_mask}
 use Rattle.scope_check.proofs.Within.{access_within, call_within, code_pc}

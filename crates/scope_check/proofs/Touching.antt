@@ -6,7 +6,7 @@ use Rattle.app_model.specs.Parts.{AppParts}
 use Rattle.app_model.specs.Words.{code_len}
 use Rattle.flow_model.specs.Breaks.{initialises}
 use Rattle.class_graph.proofs.Lists.{same_test}
-use Rattle.scope_check.specs.LockCode.{IsLockWord, is_other}
+use Rattle.scope_facts.specs.LockCode.{IsLockWord, is_other}
 
 not_not : (b : Bool) → not (not b) ≡ b
 not_not true = refl

@@ -13,8 +13,9 @@ use Rattle.call_reach.specs.Spread.{Has}
 use Rattle.call_reach.specs.Starts.{AreGathered}
 use Rattle.flow_model.specs.Breaks.{Candidate, field_of_lock, is_static_field, may_own}
 use Rattle.flow_model.specs.Policy.{acquires}
-use Rattle.scope_check.specs.Bits.{HoldsBelow, Tells}
-use Rattle.scope_check.specs.Surveys.{SurveyParts, is_marked}
+use Rattle.scope_facts.specs.Bits.{HoldsBelow, Tells}
+use Rattle.scope_facts.specs.Fields.{is_marked}
+use Rattle.scope_check.specs.Surveys.{SurveyParts}
 
 abbrev pub AcquiresAt : Candidate → (m i l : ℕ) → Type 0
 AcquiresAt x m i l = acquires l (act_at x.app m i) (row_at x.tags m i) ≡ true

@@ -1,16 +1,10 @@
 -- What an application is refused for.
 use Rattle.std.specs.Prelude.{ℕ, ◌≡◌, List}
-use Rattle.app_model.specs.CallGraph.{GraphParts}
-use Rattle.app_model.specs.Components.{ComponentParts}
 use Rattle.app_model.specs.Parts.{AppParts}
-use Rattle.app_model.specs.TagTable.{TagParts}
 use Rattle.flow_model.specs.Breaks.{Candidate, IsFirstBreak, class_name, method_name}
 use Rattle.scope_check.specs.declared.found.Found.{Found}
 use Rattle.scope_check.specs.declared.scoping.ScopeFault.{ScopeFault}
 use Rattle.scope_check.specs.declared.scoping.ScopeFault.TheVariants as faults
-
-abbrev pub candidate : AppParts → GraphParts → List ComponentParts → TagParts → Candidate
-candidate app graph list tags = record { app = app; graph = graph; list = list; tags = tags }
 
 pub record IsFirstRule (x : Candidate) (rule m pc : ℕ) (class method : List ℕ) : Type 0 where
   pub first : IsFirstBreak x rule m pc

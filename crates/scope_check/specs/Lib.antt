@@ -1,11 +1,6 @@
 pub mod Answering
-pub mod Bits
-pub mod Cases
 pub mod Causes
-pub mod Texts
-pub mod Fields
 pub mod Founds
-pub mod LockCode
 pub mod Passing
 pub mod Surveys
 pub mod Tests

@@ -5,7 +5,7 @@ use Rattle.app_model.specs.Words.{pc_at}
 use Rattle.flow_model.specs.Breaks.{Breaks, Candidate, IsEarlier, IsFirstBreak, StoresNew}
 use Rattle.scope_check.specs.declared.found.Found.{Found}
 use Rattle.scope_check.specs.declared.pass.Pass.{Pass}
-use Rattle.scope_check.specs.Bits.{Tells}
+use Rattle.scope_facts.specs.Bits.{Tells}
 use Rattle.scope_check.specs.Founds.{Covers, IsFound}
 use Rattle.scope_check.specs.Surveys.{SurveyParts}
 use Rattle.scope_check.specs.Tests.{head_tests, tests_at}

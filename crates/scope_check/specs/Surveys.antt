@@ -1,21 +1,20 @@
 -- All that is known before the rules are looked at.
-use Rattle.std.specs.Prelude.{ℕ, ◌≡◌, List, length, Bool, false, slice_index_or}
+use Rattle.std.specs.Prelude.{ℕ, ◌≡◌, List, length, Bool}
 use Rattle.ns_base.specs.declared.rows.MethodNo.{MethodNo}
 use Rattle.app_model.specs.Components.{entries_of}
 use Rattle.app_model.specs.Parts.{AppParts}
 use Rattle.call_reach.specs.Starts.{AreGathered, AreReached}
 use Rattle.flow_model.specs.Breaks.{Candidate}
-use Rattle.scope_check.specs.declared.kinds.KindRow.{KindRow}
-use Rattle.scope_check.specs.declared.names.NameRow.{NameRow}
-use Rattle.scope_check.specs.Bits.{HoldsBelow, Tells}
-use Rattle.scope_check.specs.Cases.{IsCase}
-use Rattle.scope_check.specs.Fields.{AccessesIn, InReached, IsFaulty, IsStatic, MakesIn}
-use Rattle.scope_check.specs.LockCode.{AreLockWords}
-use Rattle.scope_check.specs.Texts.{AreKinds, AreNames}
-
--- method m is reached
-abbrev pub is_marked : List Bool → (m : ℕ) → Bool
-is_marked marks m = slice_index_or marks m false
+use Rattle.scope_facts.specs.declared.kinds.KindRow.{KindRow}
+use Rattle.scope_facts.specs.declared.names.NameRow.{NameRow}
+use Rattle.scope_check.specs.declared.survey.Callbacks.{Callbacks}
+use Rattle.scope_check.specs.declared.survey.LockSets.{LockSets}
+use Rattle.scope_check.specs.declared.survey.Tables.{Tables}
+use Rattle.scope_facts.specs.Bits.{HoldsBelow, Tells}
+use Rattle.scope_facts.specs.Cases.{IsCase}
+use Rattle.scope_facts.specs.Fields.{AccessesIn, InReached, IsFaulty, IsStatic, MakesIn}
+use Rattle.scope_facts.specs.LockCode.{AreLockWords}
+use Rattle.scope_facts.specs.Texts.{AreKinds, AreNames}
 
 pub record SurveyParts : Type 0 where
   pub case : Candidate
@@ -32,6 +31,24 @@ pub record SurveyParts : Type 0 where
 -- among the methods that are reached
 abbrev pub Anywhere : (app : AppParts) → (marks : List Bool) → ((m l : ℕ) → Type 0) → ℕ → Type 0
 Anywhere app marks P = HoldsBelow (length app.methods) (InReached marks P)
+
+pub record AreCallbacks (x : Candidate) (callbacks : Callbacks) : Type 0 where
+  pub entries : callbacks.entries.items ≡ entries_of x.list
+  pub reached : AreReached x.app x.graph (entries_of x.list) callbacks.reached.items
+
+pub record AreTables (x : Candidate) (tables : Tables) : Type 0 where
+  pub kinds : AreKinds x.app tables.kinds.items
+  pub names : AreNames x.app tables.names.items
+  pub own : AreLockWords x.app tables.own.items
+  pub below : AreGathered x.app x.graph tables.own.items tables.below.items
+
+-- where the methods that are reached have marks
+pub record AreLockSets (x : Candidate) (marks : List Bool) (locks : LockSets) : Type 0 where
+  pub statics : Tells locks.statics (IsStatic x.app)
+  pub accessed : Tells locks.accessed (Anywhere x.app marks (AccessesIn x.app))
+  pub made : ℕ
+  pub makes : Tells made (Anywhere x.app marks (MakesIn x.app))
+  pub faulty : Tells locks.faulty (IsFaulty x made)
 
 pub record IsSurvey (s : SurveyParts) : Type 0 where
   pub case : IsCase s.case

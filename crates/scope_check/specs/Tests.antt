@@ -20,9 +20,10 @@ use Rattle.flow_model.specs.Breaks.{Candidate, class_initialiser, inherits, init
 use Rattle.flow_model.specs.Breaks as breaks
 use Rattle.flow_model.specs.Passes.{is_instance}
 use Rattle.flow_model.specs.Scope.{is_escape, is_wrong_call}
-use Rattle.scope_check.specs.declared.kinds.KindRow.{KindRow}
+use Rattle.scope_facts.specs.declared.kinds.KindRow.{KindRow}
 use Rattle.scope_check.specs.declared.rules.Called.{Called}
-use Rattle.scope_check.specs.Surveys.{SurveyParts, is_marked}
+use Rattle.scope_facts.specs.Fields.{is_marked}
+use Rattle.scope_check.specs.Surveys.{SurveyParts}
 
 abbrev pub is_thread_call : Option ℕ → KindRow → Bool
 is_thread_call None kind = false

@@ -4,14 +4,14 @@ ghost use Rattle.app_model.specs.Words.{code_len};
 ghost use Rattle.flow_model.specs.Passes.{is_field};
 ghost use Rattle.flow_model.specs.Policy as policy;
 ghost use Rattle.scope_check.specs.Answering.{AcquiresAt, AcquiresIn, AcquiresBelow, AreAcquired, AreAnswers, AreRowAnswers, MethodHas, WordHas};
-ghost use Rattle.scope_check.specs.Bits.{Tells, HoldsBelow};
+ghost use Rattle.scope_facts.specs.Bits.{Tells, HoldsBelow};
 
-use crate::bits::bit_of;
 use crate::survey::Survey;
 use act_model::{Act, Row, receiver_tag};
 use app_model::{ComponentRow, LockUse, Tag};
 use call_reach::gathers;
 use ns_base::{MethodNo, OutOfMemory};
+use scope_facts::bit_of;
 use std::alloc::{AllocError, Global};
 
 // The lock field whose lock an act acquires.

@@ -1,18 +1,12 @@
 //! Whether an application is in scope, or else the first broken rule.
 //!
-//! - `case` is what is looked at: an application with its call graph, its component list and its tags.
-//! - `kinds` and `names` say by number what the rules ask of the text of a type and of a name.
-//! - `bits` has sets of lock fields, `fields` what is known of each lock field before the rules are looked at.
+//! - `survey` is all that is known before the rules are looked at, `rules` has the tests of the rules at a place.
+//! - `pass` goes over all places and keeps the first broken rule, in the order of `found`.
+//! - `answers` and `owners` complete the subject of an application that breaks no rule.
 #![tactic(auto)]
 
 mod answers;
-mod bits;
-mod case;
-mod fields;
 mod found;
-mod kinds;
-mod lock_code;
-mod names;
 mod owners;
 mod pass;
 mod rules;

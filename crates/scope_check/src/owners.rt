@@ -3,12 +3,11 @@ ghost use Rattle.std.specs.Prelude.{◌≡◌, ◌<◌, ◌^◌, IfOk, length};
 ghost use Rattle.class_graph.specs.Belongs.{IsClassGraph};
 ghost use Rattle.scope_check.specs.Answering.{AreOwners, IsOwner, IsOwnerOf};
 
-use crate::bits::has_lock;
-use crate::fields::{field_of_lock, is_static, may_own};
 use crate::survey::Survey;
 use app_model::{App, ComponentRow, FieldRow};
 use class_graph::ClassGraph;
 use ns_base::{ComponentNo, LockNo};
+use scope_facts::{field_of_lock, has_lock, is_static, may_own};
 use std::alloc::{AllocError, Global};
 
 // A component that may own an instance field.
@@ -44,7 +43,7 @@ fn owner_of(survey: &Survey, classes: &ClassGraph, lock: LockNo) -> Option<Compo
 {
     let _ = &survey.case;
     match field_of_lock(&survey.case.app, lock) {
-        Some(field) if !is_static(field) && has_lock(survey.accessed, lock) => {
+        Some(field) if !is_static(field) && has_lock(survey.locks.accessed, lock) => {
             owner_of_field(survey, classes, field)
         }
         _ => None,

@@ -6,16 +6,16 @@ ghost use Rattle.app_model.specs.Words.{code_len};
 ghost use Rattle.class_graph.specs.Belongs.{IsClassGraph};
 ghost use Rattle.flow_model.specs.Scope as scope;
 ghost use Rattle.scope_check.specs.Passing.{IsFirst, IsPass, has_stored};
-ghost use Rattle.scope_check.specs.Surveys.{is_marked};
+ghost use Rattle.scope_facts.specs.Fields.{is_marked};
 ghost use Rattle.scope_check.specs.Tests.{may_not_touch};
 
-use crate::bits::{bit_of, has_lock};
 use crate::found::{Found, keep};
 use crate::survey::Survey;
 use act_model::{Act, Row};
 use class_graph::ClassGraph;
 use flow_model::stores_new;
 use ns_base::{LockNo, MethodNo};
+use scope_facts::{bit_of, has_lock};
 
 /// The first broken rule so far, and the lock fields to which new locks were stored so far.
 #[derive(Clone, Copy)]

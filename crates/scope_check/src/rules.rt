@@ -16,14 +16,9 @@ ghost use Rattle.flow_model.specs.Breaks.{passes_named};
 ghost use Rattle.flow_model.specs.Passes as passes;
 ghost use Rattle.app_model.specs.Names.{name_text};
 ghost use Rattle.scope_check.specs.Tests as spec;
-ghost use Rattle.scope_check.specs.Texts.{IsKind, IsName};
+ghost use Rattle.scope_facts.specs.Texts.{IsKind, IsName};
 ghost use Rattle.scope_check.specs.Tests.{IsCalled};
 
-use crate::bits::has_lock;
-use crate::fields::{inherits, made_type};
-use crate::kinds::{KindRow, kind_at};
-use crate::lock_code::{has_locks, has_others, is_lock_ins, name_of};
-use crate::names::NameRow;
 use crate::survey::Survey;
 use act_model::Act;
 use app_model::{App, By, Named, call_by};
@@ -31,6 +26,10 @@ use class_graph::ClassGraph;
 use dalvik::{Ins, access};
 use flow_model::{TagsAt, is_escape, is_wrong_call};
 use ns_base::{ClassNo, MethodNo, NameNo, TypeNo};
+use scope_facts::{
+    KindRow, NameRow, has_lock, has_locks, has_others, inherits, is_lock_ins, kind_at, made_type,
+    name_of,
+};
 
 /// Whether an invoke loads code, reflects, or calls a thread, by the method that it names.
 #[derive(Clone, Copy)]
@@ -84,7 +83,7 @@ impl Survey {
         ensures { IsKind self.now.case.app kind.0 result }
     {
         self.told();
-        kind_at(&self.case.app, &self.kinds, kind)
+        kind_at(&self.case.app, &self.tables.kinds, kind)
     }
 
     fn name(&self, name: NameNo) -> NameRow
@@ -92,7 +91,7 @@ impl Survey {
         ensures { IsName (name_text self.now.case.app name.0) result }
     {
         self.told();
-        self.names[name.0 as usize]
+        self.tables.names[name.0 as usize]
     }
 
     // What the method is that an invoke of this opcode names.
@@ -171,7 +170,8 @@ impl Survey {
         let (_, ins) = self.case.app.ins(method, index);
         match self.case.app.slot(method, index) {
             Some(lock) => {
-                has_lock(self.faulty, lock) || is_static_access(ins) != has_lock(self.statics, lock)
+                has_lock(self.locks.faulty, lock)
+                    || is_static_access(ins) != has_lock(self.locks.statics, lock)
             }
             None => false,
         }
@@ -205,7 +205,10 @@ impl Survey {
         ensures { result ≡ spec.is_entry self.now.entries method.0 }
     {
         let _ = &self.case;
-        self.entries.iter().any(|entry| entry.0 == method.0)
+        self.callbacks
+            .entries
+            .iter()
+            .any(|entry| entry.0 == method.0)
     }
 
     // Whether a component's class is a class, or inherits it.
@@ -237,8 +240,8 @@ impl Survey {
         ensures { result ≡ spec.is_unlisted self.now method.0 }
     {
         self.told();
-        let name = name_of(&self.case.app, &self.names, method);
-        !self.reaches(method) && name.callback && has_locks(self.below[method.0 as usize])
+        let name = name_of(&self.case.app, &self.tables.names, method);
+        !self.reaches(method) && name.callback && has_locks(self.tables.below[method.0 as usize])
     }
 
     fn is_initialiser(&self, classes: &ClassGraph, method: MethodNo) -> bool
@@ -247,7 +250,7 @@ impl Survey {
         ensures { result ≡ spec.is_initialiser self.now method.0 }
     {
         self.told();
-        let name = name_of(&self.case.app, &self.names, method);
+        let name = name_of(&self.case.app, &self.tables.names, method);
         name.class_init || (name.init && !self.reaches(method) && self.is_hosted(classes, method))
     }
 
@@ -257,7 +260,7 @@ impl Survey {
         ensures { result ≡ ((bit_at (slice_index self.now.below method.0) 1 == 1) && spec.is_initialiser self.now method.0) }
     {
         self.told();
-        has_others(self.below[method.0 as usize]) && self.is_initialiser(classes, method)
+        has_others(self.tables.below[method.0 as usize]) && self.is_initialiser(classes, method)
     }
 
     /// The tests of the rules at a method as a whole.
@@ -281,7 +284,7 @@ impl Survey {
         ensures { result ≡ spec.may_not_touch self.now.case.app method.0 }
     {
         self.told();
-        let name = name_of(&self.case.app, &self.names, method);
-        !name.class_init && has_others(self.own[method.0 as usize])
+        let name = name_of(&self.case.app, &self.tables.names, method);
+        !name.class_init && has_others(self.tables.own[method.0 as usize])
     }
 }

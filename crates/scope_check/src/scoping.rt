@@ -8,11 +8,11 @@ ghost use Rattle.flow_model.specs.Breaks.{Breaks};
 ghost use Rattle.flow_model.specs.Breaks as breaks;
 ghost use Rattle.flow_model.specs.InScope.{IsInScope, candidate_of};
 ghost use Rattle.flow_model.specs.TagFlow.{IsTagTableOf};
-ghost use Rattle.scope_check.specs.Causes.{IsCause, IsFaultOf, candidate};
+ghost use Rattle.scope_facts.specs.Cases.{candidate};
+ghost use Rattle.scope_check.specs.Causes.{IsCause, IsFaultOf};
 ghost use Rattle.scope_check.specs.Passing.{IsFirst};
 
 use crate::answers::answers;
-use crate::case::Case;
 use crate::found::Found;
 use crate::owners::owners;
 use crate::pass::first_break;
@@ -20,6 +20,7 @@ use crate::survey::Survey;
 use app_model::{App, CallGraph, ComponentTable, Subject, TagTable};
 use class_graph::ClassGraph;
 use ns_base::MethodNo;
+use scope_facts::Case;
 use std::alloc::{AllocError, Global};
 
 /// Why an application is not in scope.
@@ -98,7 +99,11 @@ fn subject_of(alloc: Global, survey: Survey, classes: &ClassGraph) -> Result<Sub
     survey.case.told();
     let answers = answers(alloc, &survey)?;
     let owners = owners(alloc, &survey, classes)?;
-    let Survey { case, reached, .. } = survey;
+    let Survey {
+        case,
+        callbacks,
+        ..
+    } = survey;
     let Case {
         app,
         graph,
@@ -110,7 +115,7 @@ fn subject_of(alloc: Global, survey: Survey, classes: &ClassGraph) -> Result<Sub
         graph,
         list,
         tags,
-        reached,
+        reached: callbacks.reached,
         answers,
         owners,
     })
@@ -149,13 +154,7 @@ pub fn scope(
     ensures same { IfOk result (λ subject. candidate_of subject ≡ candidate app graph list tags) }
     ensures cause { IfErr result (IsCause (candidate app graph list tags)) }
 {
-    app.told();
-    let case = Case {
-        app,
-        graph,
-        list,
-        tags,
-    };
+    let case = Case::new(app, graph, list, tags);
     match Survey::new(alloc, case, classes) {
         Ok(survey) => judge(alloc, survey, classes),
         Err(AllocError) => Err(ScopeFault::Memory),

@@ -5,39 +5,55 @@ ghost use Rattle.app_model.specs.Components.{entries_of};
 ghost use Rattle.app_model.specs.Words.{code_len, ins_at, pc_at};
 ghost use Rattle.call_reach.specs.Starts.{AreGathered, AreReached};
 ghost use Rattle.class_graph.specs.Belongs.{IsClassGraph};
-ghost use Rattle.scope_check.specs.LockCode.{AreLockWords};
-ghost use Rattle.scope_check.specs.Surveys.{IsSurvey};
-ghost use Rattle.scope_check.specs.Surveys.{is_marked};
+ghost use Rattle.scope_facts.specs.LockCode.{AreLockWords};
+ghost use Rattle.scope_facts.specs.Fields.{is_marked};
+ghost use Rattle.scope_check.specs.Surveys.{AreCallbacks, AreLockSets, AreTables, IsSurvey};
+ghost use Rattle.scope_facts.specs.Texts.{AreKinds};
 
-use crate::case::Case;
-use crate::fields::{faulty_locks, find_seen, lock_count, static_locks};
-use crate::kinds::{KindRow, kind_rows};
-use crate::lock_code::lock_words;
-use crate::names::{NameRow, name_rows};
 use act_model::{Act, act_of};
 use call_reach::{gathers, reach};
 use class_graph::ClassGraph;
 use dalvik::Ins;
 use flow_model::TagsAt;
 use ns_base::{MethodNo, OutOfMemory};
+use scope_facts::{
+    Case, KindRow, NameRow, faulty_locks, find_seen, kind_rows, lock_count, lock_words, name_rows,
+    static_locks,
+};
 use std::alloc::{AllocError, Global};
 use std::marker::Model;
 
-/// A case; the methods of its callbacks, and whether these reach each method; a row for each type and each name; a word
-/// for each method on its own lock instructions, and one on those of its reach. `statics` has the static lock fields,
-/// `accessed` those that reached code accesses, `faulty` the instance ones that have not their one owner.
+/// The methods of the callbacks, and whether these reach each method.
 #[derive(Drop)]
-pub(crate) struct Survey {
-    pub case: Case,
+pub(crate) struct Callbacks {
     pub entries: Vec<MethodNo>,
     pub reached: Vec<bool>,
+}
+
+/// A row for each type and each name; a word for each method on its own lock instructions, and one on those of its reach.
+#[derive(Drop)]
+pub(crate) struct Tables {
     pub kinds: Vec<KindRow>,
     pub names: Vec<NameRow>,
     pub own: Vec<u64>,
     pub below: Vec<u64>,
+}
+
+/// The static lock fields, those that reached code accesses, and the instance ones that have not their one owner.
+#[derive(Clone, Copy)]
+pub(crate) struct LockSets {
     pub statics: u64,
     pub accessed: u64,
     pub faulty: u64,
+}
+
+/// A case with what is found of it.
+#[derive(Drop)]
+pub(crate) struct Survey {
+    pub case: Case,
+    pub callbacks: Callbacks,
+    pub tables: Tables,
+    pub locks: LockSets,
 }
 
 impl Model for Survey {
@@ -47,28 +63,28 @@ impl Model for Survey {
 
     ghost view = { λ s. record {
       case = s.case;
-      entries = s.entries.items;
-      reached = s.reached.items;
-      kinds = s.kinds.items;
-      names = s.names.items;
-      own = s.own.items;
-      below = s.below.items;
-      statics = s.statics;
-      accessed = s.accessed;
-      faulty = s.faulty;
+      entries = s.callbacks.entries.items;
+      reached = s.callbacks.reached.items;
+      kinds = s.tables.kinds.items;
+      names = s.tables.names.items;
+      own = s.tables.own.items;
+      below = s.tables.below.items;
+      statics = s.locks.statics;
+      accessed = s.locks.accessed;
+      faulty = s.locks.faulty;
     } };
 
     ghost invariant = { λ s. IsSurvey (record {
       case = s.case;
-      entries = s.entries.items;
-      reached = s.reached.items;
-      kinds = s.kinds.items;
-      names = s.names.items;
-      own = s.own.items;
-      below = s.below.items;
-      statics = s.statics;
-      accessed = s.accessed;
-      faulty = s.faulty;
+      entries = s.callbacks.entries.items;
+      reached = s.callbacks.reached.items;
+      kinds = s.tables.kinds.items;
+      names = s.tables.names.items;
+      own = s.tables.own.items;
+      below = s.tables.below.items;
+      statics = s.locks.statics;
+      accessed = s.locks.accessed;
+      faulty = s.locks.faulty;
     }) };
 }
 
@@ -95,31 +111,63 @@ fn words_below(alloc: Global, case: &Case, own: &[u64]) -> Result<Vec<u64>, Allo
     }
 }
 
+fn find_callbacks(alloc: Global, case: &Case) -> Result<Callbacks, AllocError>
+    ensures { IfOk result (AreCallbacks case.now) }
+{
+    let entries = case.entries(alloc)?;
+    let reached = reach_of(alloc, case, &entries)?;
+    Ok(Callbacks { entries, reached })
+}
+
+fn make_tables(alloc: Global, case: &Case, classes: &ClassGraph) -> Result<Tables, AllocError>
+    requires { IsClassGraph case.now.app classes.now }
+    ensures { IfOk result (AreTables case.now) }
+{
+    let kinds = kind_rows(alloc, &case.app, classes)?;
+    let names = name_rows(alloc, &case.app)?;
+    let own = lock_words(alloc, &case.app, &names)?;
+    let below = words_below(alloc, case, &own)?;
+    Ok(Tables {
+        kinds,
+        names,
+        own,
+        below,
+    })
+}
+
+fn find_lock_sets(
+    case: &Case,
+    classes: &ClassGraph,
+    kinds: &[KindRow],
+    reached: &[bool],
+) -> LockSets
+    requires classes { IsClassGraph case.now.app classes.now }
+    requires kinds { AreKinds case.now.app kinds.now }
+    requires reached { length reached.now ≡ length case.now.app.methods }
+    ensures { AreLockSets case.now reached.now result }
+{
+    let seen = find_seen(&case.app, kinds, reached);
+    LockSets {
+        statics: static_locks(&case.app),
+        accessed: seen.accessed,
+        faulty: faulty_locks(case, classes, seen.made),
+    }
+}
+
 impl Survey {
     pub fn new(alloc: Global, case: Case, classes: &ClassGraph) -> Result<Survey, AllocError>
         requires { IsClassGraph case.app classes.now }
         ensures { IfOk result (λ survey. survey.case ≡ case) }
     {
         case.told();
-        let entries = case.entries(alloc)?;
-        let reached = reach_of(alloc, &case, &entries)?;
-        let kinds = kind_rows(alloc, &case.app, classes)?;
-        let names = name_rows(alloc, &case.app)?;
-        let own = lock_words(alloc, &case.app, &names)?;
-        let below = words_below(alloc, &case, &own)?;
-        let seen = find_seen(&case.app, &kinds, &reached);
-        let faulty = faulty_locks(&case, classes, seen.made);
+        let callbacks = find_callbacks(alloc, &case)?;
+        let tables = make_tables(alloc, &case, classes)?;
+        let locks = find_lock_sets(&case, classes, &tables.kinds, &callbacks.reached);
         Ok(Survey {
-            entries,
-            reached,
-            kinds,
-            names,
-            own,
-            below,
-            statics: static_locks(&case.app),
-            accessed: seen.accessed,
-            faulty,
             case,
+            callbacks,
+            tables,
+            locks,
         })
     }
 
@@ -135,7 +183,7 @@ impl Survey {
         requires { method.0 < length self.now.case.app.methods }
         ensures { result ≡ is_marked self.now.reached method.0 }
     {
-        self.reached[method.0 as usize]
+        self.callbacks.reached[method.0 as usize]
     }
 
     pub fn lock_count(&self) -> u32

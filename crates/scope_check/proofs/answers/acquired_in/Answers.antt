@@ -1,5 +1,5 @@
 use Rattle.scope_check.specs.Answering.{AcquiresAt}
-use Rattle.scope_check.proofs.BitLaws.{none_below, one_more_below}
+use Rattle.scope_facts.proofs.BitLaws.{none_below, one_more_below}
 use Rattle.scope_check.proofs.answers.acquired_in.Goals as goal
 
 pub loop-index-init : goal.loop-index-init

@@ -1,7 +1,7 @@
 use Rattle.std.proofs.Common.{ℕ, arith}
 use Rattle.scope_check.specs.Answering.{AcquiresIn}
-use Rattle.scope_check.specs.Bits.{Tells}
-use Rattle.scope_check.proofs.Rows.{row_more}
+use Rattle.scope_facts.specs.Bits.{Tells}
+use Rattle.scope_facts.proofs.Rows.{row_more}
 use Rattle.scope_check.proofs.answers.acquired_words.Goals as goal
 
 pub loop-method-preserved : goal.loop-method-preserved

@@ -1,6 +1,6 @@
 use Rattle.std.proofs.Common.{◌≡◌, ◌<◌, ℕ, length, get_or}
 use Rattle.scope_check.specs.Answering.{AcquiresIn}
-use Rattle.scope_check.specs.Bits.{Tells}
+use Rattle.scope_facts.specs.Bits.{Tells}
 use Rattle.scope_check.proofs.answers.acquired_words.Given as goal
 
 abbrev pub invariant-loop-method : goal.invariant-loop-method

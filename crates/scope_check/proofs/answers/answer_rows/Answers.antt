@@ -2,9 +2,9 @@ use Rattle.std.proofs.Common.{◌≡◌, ℕ, Some, ap, arith, slice_get, ◌∙
 use Rattle.std.proofs.lemmas.Option.{slice_get_within}
 use Rattle.app_model.specs.Components.{ComponentParts}
 use Rattle.scope_check.specs.Answering.{RowHas}
-use Rattle.scope_check.specs.Bits.{Tells}
+use Rattle.scope_facts.specs.Bits.{Tells}
 use Rattle.scope_check.proofs.AnswerLaws.{row_answered}
-use Rattle.scope_check.proofs.Rows.{row_more}
+use Rattle.scope_facts.proofs.Rows.{row_more}
 use Rattle.scope_check.proofs.answers.answer_rows.Goals as goal
 
 pub loop-c-preserved : goal.loop-c-preserved

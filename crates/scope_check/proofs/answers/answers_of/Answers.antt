@@ -1,6 +1,6 @@
 use Rattle.scope_check.specs.Answering.{MethodHas}
 use Rattle.scope_check.proofs.AnswerLaws.{method_told}
-use Rattle.scope_check.proofs.BitLaws.{none_below, one_more_below}
+use Rattle.scope_facts.proofs.BitLaws.{none_below, one_more_below}
 use Rattle.scope_check.proofs.answers.answers_of.Goals as goal
 
 pub loop-k-init : goal.loop-k-init

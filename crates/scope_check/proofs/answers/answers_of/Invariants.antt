@@ -1,5 +1,5 @@
 use Rattle.scope_check.specs.Answering.{MethodHas}
-use Rattle.scope_check.specs.Bits.{HoldsBelow, Tells}
+use Rattle.scope_facts.specs.Bits.{HoldsBelow, Tells}
 use Rattle.scope_check.proofs.answers.answers_of.Given as goal
 
 abbrev pub invariant-loop-k : goal.invariant-loop-k

@@ -1,6 +1,6 @@
 use Rattle.std.proofs.Common.{arith}
 use Rattle.scope_check.specs.Answering.{IsOwnerOf}
-use Rattle.scope_check.proofs.Rows.{row_more, row_read}
+use Rattle.scope_facts.proofs.Rows.{row_more, row_read}
 use Rattle.scope_check.proofs.owners.owners.Goals as goal
 
 pub loop-l-preserved : goal.loop-l-preserved

@@ -1,5 +1,4 @@
-use Rattle.std.proofs.Common.{refl, ℕ, Bool, List, Some, true, ◌≡◌, subst, sym, ap, ap₂, ◌∙◌}
-use Rattle.std.specs.Prelude.{◌↔◌}
+use Rattle.std.proofs.Common.{refl, Bool, List, subst}
 use Rattle.scope_check.specs.Founds.{Keeps}
 use Rattle.scope_check.proofs.Steps.{look_step, second_tests, stored_told}
 use Rattle.scope_check.proofs.pass.look_at.Goals as goal

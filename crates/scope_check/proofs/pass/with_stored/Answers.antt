@@ -1,4 +1,4 @@
-use Rattle.scope_check.proofs.BitLaws.{with_bit}
+use Rattle.scope_facts.proofs.BitLaws.{with_bit}
 use Rattle.scope_check.proofs.pass.with_stored.Goals as goal
 
 pub returns-in-Some : goal.returns-in-Some

@@ -1,6 +1,0 @@
-use Rattle.std.proofs.Common.{◌≡◌, take}
-use Rattle.app_model.specs.Components.{entries_of}
-use Rattle.scope_check.proofs.case.Case.entries.Given as goal
-
-abbrev pub invariant-loop-c : goal.invariant-loop-c
-invariant-loop-c l = l.entries.items ≡ entries_of (take l.c l.rows)

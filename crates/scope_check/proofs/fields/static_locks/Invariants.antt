@@ -1,7 +1,0 @@
-use Rattle.scope_check.specs.Bits.{HoldsBelow, Tells}
-use Rattle.scope_check.specs.Fields.{IsStatic}
-use Rattle.scope_check.proofs.BitLaws.{At}
-use Rattle.scope_check.proofs.fields.static_locks.Given as goal
-
-abbrev pub invariant-loop-l : goal.invariant-loop-l
-invariant-loop-l l = Tells l.statics (HoldsBelow l.l (At (IsStatic l.app)))

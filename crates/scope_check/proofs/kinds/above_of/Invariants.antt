@@ -1,7 +1,0 @@
-use Rattle.scope_check.specs.Bits.{HoldsBelow, Tells}
-use Rattle.scope_check.specs.Texts.{IsBelowLock}
-use Rattle.scope_check.proofs.BitLaws.{At}
-use Rattle.scope_check.proofs.kinds.above_of.Given as goal
-
-abbrev pub invariant-loop-l : goal.invariant-loop-l
-invariant-loop-l l = Tells l.above (HoldsBelow l.l (At (IsBelowLock l.app l.kind.0)))

@@ -1,0 +1,5 @@
+pub mod BitLaws
+pub mod Entries
+pub mod FieldLaws
+pub mod Rows
+pub mod ThreadLaws

@@ -1,0 +1,5 @@
+pub mod Bits
+pub mod Cases
+pub mod Fields
+pub mod LockCode
+pub mod Texts
