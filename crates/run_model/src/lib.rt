@@ -9,7 +9,8 @@ mod laws;
 mod status;
 
 pub use laws::{
-    call_targets, held_statuses, options_law, scope_law, soundness, soundness_inside, worked_runs,
+    call_targets, held_statuses, options_law, scope_law, soundness, soundness_inside,
+    tagged_soundness, worked_runs,
 };
 pub use status::{LockState, slot_status};
 
