@@ -107,7 +107,7 @@ module _ (x : SubjectParts) (own : ℕ) (set_of : Set) (p : Premises x own set_o
 
   -- ---- the frame that begins
   module _ (by : By) (usage : LockUse) (arguments : Args) (given : Gives) (is : act_at x.app f.method f.index ≡ Some (Call by usage arguments given)) (m : ℕ) (callee : Contains (callees_at x f.method f.index) (method_no m))
-    (opened : is_open x own f.method f.index (status h own) ≡ true) where
+      (opened : is_open x own f.method f.index (status h own) ≡ true) where
     followed : IsFollowed x f.method f.index m
     followed = p.tagged.calls f.method f.index m t.reached (live x own set_of p n) callee
 

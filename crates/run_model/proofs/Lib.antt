@@ -18,3 +18,4 @@ pub mod Calls
 pub mod Instructions
 pub mod Runs
 pub mod Worked
+pub mod WorkedCalls

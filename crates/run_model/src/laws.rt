@@ -25,6 +25,7 @@ ghost use Rattle.run_model.specs.Relation.{Each, IsHeap, IsIdle, IsInside, IsSou
 ghost use Rattle.run_model.specs.Soundness.{FitsTarget, HoldsLock, LeavesNoneHeld, StandsWell};
 ghost use Rattle.run_model.specs.Tagged.{IsTagged};
 ghost use Rattle.run_model.specs.Worked.{CallsSuper, ClearsOwned, CopyDown, CopyUp, DivisionByTwo, DivisionThrows, FirstSlowest, KeepsStatic, LeadsOutside, LeavesFree, LeavesHeld, LockEscapes, LosesLock, MakingThrows, MonitorOnNull, MonitorOnObject, NoReceiver, NoSuchStart, NonzeroBranches, NullReceiver, OutsideEnds, PicksOverride, ReceiverFirst, ReleaseThrows, RestsAlone, ServiceFirst, StartsCounted, StaticCall, StaticReturn, StoreToNull, StoreToObject, SwitchGoes, ThrowsThrough, WideRead, ZeroBranches};
+ghost use Rattle.run_model.specs.WorkedCalls.{CaughtAbove, EndsAmidHeld, FirstIsLost, FramesLeft, HeldOverCall, ReleasesOther, SecondHolds};
 
 /// Soundness, for every subject in scope, lock field, closed set of facts and list of choices: at no policy exit is a lock
 /// of the field held, where the set meets the policy. The relation between the set and the state in which a run stands, of
@@ -111,4 +112,15 @@ pub fn worked_runs()
     ensures counted { StartsCounted }
     ensures first_slowest { FirstSlowest }
     ensures no_such_start { NoSuchStart }
+{}
+
+/// The same of lifecycles that come round, of a throw and a lock over calls, and of components that share a lock field.
+pub fn worked_calls()
+    ensures second_object { SecondHolds }
+    ensures lost_object { FirstIsLost }
+    ensures frames_left { FramesLeft }
+    ensures caught { CaughtAbove }
+    ensures over_call { HeldOverCall }
+    ensures amid_held { EndsAmidHeld }
+    ensures other_released { ReleasesOther }
 {}
