@@ -1,6 +1,6 @@
 -- Calls keep the relation.
 use Rattle.std.proofs.Common.{◌≡◌, ℕ, suc, Bool, true, false, if◌then◌else◌, List, [], ◌∷◌, ◌++◌, length, Option, Some, None, slice_get, refl, sym, ap, ◌∙◌, arith, subst, length-append}
-use Rattle.std.specs.Prelude.{◌==◌, ◌&&◌, nat_le, is_some, Contains}
+use Rattle.std.specs.Prelude.{◌&&◌, nat_le, is_some, IfSome}
 use Rattle.std.proofs.lemmas.Bool.{and_parts, and_from, or_parts, or_right, false≢true}
 use Rattle.dalvik.specs.declared.ins.Args.{Args}
 use Rattle.app_model.specs.declared.tag.Tag.{Tag}
@@ -21,20 +21,21 @@ use Rattle.act_model.specs.declared.act.Act.{Act}
 use Rattle.act_model.specs.declared.act.Act.TheVariants.{Call}
 use Rattle.dalvik.specs.Calls.{receiver_of, argument_of, arg_at, args_len}
 use Rattle.act_model.specs.Acts.{act_at, op_of}
+use Rattle.act_model.specs.Entries.{call_words}
+use Rattle.dalvik.specs.Registers.{args_of}
+use Rattle.flow_model.specs.Subject.{is_open, open_by}
 use Rattle.act_model.specs.Changes.{tag_in, call_change, given_tag}
 use Rattle.flow_model.specs.Derived.{Set}
 use Rattle.app_model.specs.Sites.{site_at}
 use Rattle.app_model.specs.Masks.{in_mask, any_below}
 use Rattle.flow_model.specs.Passes.{has_receiver, is_instance, is_lock_call, passes_null, passes_outside, receiver_nullness, throws, throws_outside}
 use Rattle.flow_model.specs.Scope.{call_escapes, escapes_as_receiver, is_escape, may_be_lock, passes_lock}
-use Rattle.app_model.specs.Subject.{SubjectParts, callees_at, slot_count}
+use Rattle.app_model.specs.Subject.{SubjectParts, slot_count}
 use Rattle.app_model.specs.CallGraph.{targets_at}
-use Rattle.app_model.specs.Targets.{method_no}
-use Rattle.ns_base.specs.declared.rows.MethodNo.{MethodNo}
 use Rattle.run_model.proofs.Targets.{invoked, target_fits}
 use Rattle.run_model.specs.Heaps.{Value, Zero, Nonzero, Object, LockRef, Heap, Lock, cell, is_owned, lock_at, new_lock, status, with_new}
 use Rattle.run_model.specs.Frames.{Frame, Here, Over, Stuck, Escape, register, answers, answers_of, here_of, throws_from}
-use Rattle.run_model.specs.Calls.{is_lock_in, gives_lock, receiver_in, lacks_argument, Target, Enters, GoesOutside, IsStuck, lock_call_options, full_lock_call_options, operation_options, answer_options, invoke_options, outside_answers, plain_call_options, receiver_options, call_by_op, call_options, target_of, target_options}
+use Rattle.run_model.specs.Calls.{is_lock_in, gives_lock, receiver_in, lacks_argument, Target, Enters, GoesOutside, IsStuck, lock_call_options, full_lock_call_options, operation_options, answer_options, invoke_options, outside_answers, plain_call_options, receiver_options, call_by_op, call_options, target_of, target_options, values_of}
 use Rattle.run_model.specs.Soundness.{FitsTarget}
 use Rattle.run_model.specs.Choices.{Single, ForEach}
 use Rattle.run_model.specs.Relation.{AreTagged, IsInside, IsNew, Means}
@@ -43,9 +44,11 @@ use Rattle.run_model.proofs.Members.{EachWay, each_map, each_then, way_if}
 use Rattle.run_model.proofs.Heaps.{cell_same, grown_at, grown_last, grown_status, grown_heap, owned_there}
 use Rattle.run_model.proofs.Meanings.{KeepsBut, nowhere, cell_of_lock, field_receiver, held_same, may_be, means_kept}
 use Rattle.run_model.proofs.Registers.{tagged_map, tagged_read}
-use Rattle.run_model.proofs.Entries.{answers_ok}
+use Rattle.run_model.proofs.Entries.{AreMeant, answers_ok}
 use Rattle.run_model.proofs.Masks.{passes_full, outside_throws_full, zero_throws}
 use Rattle.run_model.proofs.LockCalls.{answer_ok, argument_tag, operation_ok, receiver_tag, thrown_ok}
+use Rattle.run_model.proofs.Callers.{Spares, spares_all}
+use Rattle.run_model.proofs.Entering.{enters_ok, first_register, instance_handed, none_given, words_handed}
 use Rattle.run_model.proofs.Steps.{Premises, Stand, only_status, out_of, row_of, throws_ok}
 
 any_weaker : (f g : ℕ → Bool) (n : ℕ) → ((k : ℕ) → f k ≡ true → g k ≡ true) → any_below f n ≡ true → any_below g n ≡ true
@@ -61,10 +64,6 @@ pub given_by_tag : (row : List Tag) (f : Frame) (lo hi : ℕ) (h : Heap) → Are
 given_by_tag row f lo hi h tagged arguments from g =
     any_weaker (λ k. nat_le from k && is_lock_in (register f (arg_at arguments k))) (λ k. nat_le from k && may_be_lock (tag_in row (arg_at arguments k))) (args_len arguments)
     (λ k both. (let b = and_parts (nat_le from k) (is_lock_in (register f (arg_at arguments k))) both in and_from (nat_le from k) (may_be_lock (tag_in row (arg_at arguments k))) b.0 (lock_tag row f.registers lo hi h tagged (arg_at arguments k) (register f (arg_at arguments k)) refl b.1))) g
-
-not_empty : (b : Bool) (o : Option Value) (v : Value) → (if b then None else o) ≡ Some v → o ≡ Some v
-not_empty true o v e = absurd (let none : None ≡ Some v = e in cc)
-not_empty false o v e = e
 
 has_argument : (o : Option Value) → lacks_argument ops.Mode o ≡ false → (v : Value) × (o ≡ Some v)
 has_argument None e = cc
@@ -127,12 +126,12 @@ module _ (x : SubjectParts) (own : ℕ) (set_of : Set) (p : Premises x own set_o
     plain_ok full is =
         let mask = by_outside (λ (b : Bool). in_mask (passes_outside b (nullness_of Plain) (status h own)) (status h own) ≡ true) full.passes in
         each_map (λ v. Means (given_tag given) v t.lo (length h.locks) h) (IsInside x own set_of) (answers (here h f rest))
-        (λ v means. answer_ok x own set_of p n by arguments given h Plain v is ok (omega arith) mask (thrown_ok x own set_of p n by arguments given Plain) means) (answers_of x.app given) (answers_ok x.app given t.lo (length h.locks) h)
+        (λ v means. answer_ok x own set_of p n by arguments given h Plain v is ok (spares_all x f.method t.lo h) mask (thrown_ok x own set_of p n by arguments given Plain) means) (answers_of x.app given) (answers_ok x.app given t.lo (length h.locks) h)
 
     wrong_ok : IsFull h (nullness_of Wrong) → act_at x.app f.method f.index ≡ Some (Call by Wrong arguments given) → EachWay (IsInside x own set_of) (ForEach (answers_of x.app given) (answers (here h f rest)))
     wrong_ok full is =
         each_map (λ v. Means (given_tag given) v t.lo (length h.locks) h) (IsInside x own set_of) (answers (here h f rest))
-        (λ v means. answer_ok x own set_of p n by arguments given h Wrong v is ok (omega arith) full.passes (thrown_ok x own set_of p n by arguments given Wrong) means) (answers_of x.app given) (answers_ok x.app given t.lo (length h.locks) h)
+        (λ v means. answer_ok x own set_of p n by arguments given h Wrong v is ok (spares_all x f.method t.lo h) full.passes (thrown_ok x own set_of p n by arguments given Wrong) means) (answers_of x.app given) (answers_ok x.app given t.lo (length h.locks) h)
 
     -- a new lock
     abbrev site : ℕ
@@ -152,6 +151,13 @@ module _ (x : SubjectParts) (own : ℕ) (set_of : Set) (p : Premises x own set_o
       held = λ l off. held_same h grown (cell h l) (λ i is. ap (λ (y : Lock). y.count) (grown_at h site i (owned_there h i l (ok.cell l i is))));
     }
 
+    make_spares : Spares x f.method t.lo h grown
+    make_spares = record {
+      more = omega (arith, one_more);
+      loose = λ i from below free. grown_at h site i (omega (arith, below, t.from));
+      cells = λ l off. cell_same h (h.locks ++ new_lock site ∷ []) l;
+    }
+
     made : IsNew site (LockRef (length h.locks)) t.lo (length grown.locks) grown
     made = record { i = length h.locks; is = refl; from = t.from; below = omega (arith, one_more); loose = ap (λ (y : Lock). y.owner) (grown_last h site); made = ap (λ (y : Lock). y.site) (grown_last h site) }
 
@@ -160,7 +166,7 @@ module _ (x : SubjectParts) (own : ℕ) (set_of : Set) (p : Premises x own set_o
         let same = grown_status h site (slot_count x) ok own in
         let mask = subst (λ s. in_mask (passes_null (nullness_of Make) (status h own)) s ≡ true) (sym same) full.passes in
         let tags = tagged_map (row_of x own set_of p f) f.registers t.lo (length h.locks) h t.registers (call_change Make (receiver_tag x own set_of p f arguments)) (length grown.locks) grown (means_kept t.lo (length h.locks) (length grown.locks) h grown make_keeps) in
-        (answer_ok x own set_of p n by arguments given grown Make (LockRef (length h.locks)) is (grown_heap h site (slot_count x) ok) (omega (arith, one_more)) mask tags made, tt)
+        (answer_ok x own set_of p n by arguments given grown Make (LockRef (length h.locks)) is (grown_heap h site (slot_count x) ok) make_spares mask tags made, tt)
 
     answer_options_ok : (usage : LockUse) → is_lock_call usage ≡ false → IsFull h (nullness_of usage) → act_at x.app f.method f.index ≡ Some (Call by usage arguments given) → EachWay (IsInside x own set_of) (answer_options (here h f rest) usage given)
     answer_options_ok Plain off full is = plain_ok full is
@@ -199,7 +205,7 @@ module _ (x : SubjectParts) (own : ℕ) (set_of : Set) (p : Premises x own set_o
     given_lock from g = given_by_tag row f t.lo (length h.locks) h t.registers arguments from g
 
     receiver_means : (v : Value) → receiver_in f arguments ≡ Some v → Means (receiver_tag x own set_of p f arguments) v t.lo (length h.locks) h
-    receiver_means v e = tagged_read row f.registers t.lo (length h.locks) h t.registers (receiver_of arguments) v (not_empty (args_len arguments == 0) (register f (receiver_of arguments)) v e)
+    receiver_means v e = tagged_read row f.registers t.lo (length h.locks) h t.registers (receiver_of arguments) v (first_register f arguments v e)
 
     -- a call on null
     null_ok : has_receiver usage by ≡ true → receiver_in f arguments ≡ Some Zero → (usage ≡ Mode → (v : Value) × (register f (argument_of arguments) ≡ Some v)) → EachWay (IsInside x own set_of) (throws_from (here h f rest))
@@ -236,36 +242,44 @@ module _ (x : SubjectParts) (own : ℕ) (set_of : Set) (p : Premises x own set_o
     no_lock_argument : is_lock_call usage ≡ false → Mode ≡ usage → ⊥
     no_lock_argument off e = absurd (false≢true (sym off ∙ ap is_lock_call (sym e)))
 
-    -- no call enters a method of the application
-    none_entered : (m : ℕ) → Contains (callees_at x f.method f.index) (method_no m) → ⊥
-    none_entered m c = omega (arith, (subst (λ (callees : List MethodNo). Contains callees (method_no m)) (p.tagged.alone f.method f.index t.reached) c).1)
+    -- the words of the call, as the tags of its callee's entry say
+    abbrev AreHandedOn : Type 0
+    AreHandedOn = IfSome (values_of f (args_of arguments)) (AreMeant (length h.locks) (length h.locks) h (call_words by row arguments))
 
     fits : (type : Option ℕ) → FitsTarget (targets_at x.graph f.method f.index) (target_of x.app f.method by usage (named_at x.app f.method f.index) type)
     fits type = target_fits x f.method f.index by usage arguments given (p.tagged.graph f.method f.index t.reached (ap is_some (invoked x.app f.method f.index by usage arguments given is).is)) is type
 
-    target_ok : IsFull h (receiver_nullness (has_receiver usage by) own (receiver_tag x own set_of p f arguments)) → is_lock_call usage ≡ false → (to : Target) → FitsTarget (targets_at x.graph f.method f.index) to
+    target_ok : IsFull h (receiver_nullness (has_receiver usage by) own (receiver_tag x own set_of p f arguments)) → is_lock_call usage ≡ false → AreHandedOn → (to : Target) → FitsTarget (targets_at x.graph f.method f.index) to
         → EachWay (IsInside x own set_of) (target_options (here h f rest) usage arguments given to)
-    target_ok full off (Enters m) c = absurd (none_entered m c)
-    target_ok full off GoesOutside out = outside_answers_ok n by arguments given out usage off full is
-    target_ok full off IsStuck c = (tt, tt)
+    target_ok full off handed (Enters m) callee = (enters_ok x own set_of p n by usage arguments given is m callee opened (values_of f (args_of arguments)) handed, tt)
+      where
+        opened : is_open x own f.method f.index (status h own) ≡ true
+        opened = subst (λ (o : Option Act). open_by own o row (status h own) ≡ true) (sym is) full.passes
+    target_ok full off handed GoesOutside out = outside_answers_ok n by arguments given out usage off full is
+    target_ok full off handed IsStuck c = (tt, tt)
 
-    static_ok : is_instance by ≡ false → is_lock_call usage ≡ false → EachWay (IsInside x own set_of) (invoke_options (here h f rest) by usage arguments given None)
-    static_ok form off = target_ok (rw (off, form) (full_none h)) off _ (fits None)
+    static_ok : is_instance by ≡ false → is_lock_call usage ≡ false → AreHandedOn → EachWay (IsInside x own set_of) (invoke_options (here h f rest) by usage arguments given None)
+    static_ok form off handed = target_ok (rw (off, form) (full_none h)) off handed _ (fits None)
 
-    receiver_ok : is_lock_call usage ≡ false → has_receiver usage by ≡ true → (o : Option Value) → receiver_in f arguments ≡ o → EachWay (IsInside x own set_of) (receiver_options (here h f rest) by usage arguments given o)
-    receiver_ok off there None e = (tt, tt)
-    receiver_ok off there (Some Zero) e = null_ok there e (λ mode. absurd (no_lock_argument off (sym mode)))
-    receiver_ok off there (Some Nonzero) e = (tt, tt)
-    receiver_ok off there (Some (LockRef i)) e = (tt, tt)
-    receiver_ok off there (Some (Object type)) e =
-        target_ok (full_object h (has_receiver usage by) _ t.lo (length h.locks) type (receiver_means (Object type) e)) off _ (fits type)
+    receiver_ok : is_lock_call usage ≡ false → has_receiver usage by ≡ true → ((type : Option ℕ) → receiver_in f arguments ≡ Some (Object type) → AreHandedOn) → (o : Option Value) → receiver_in f arguments ≡ o
+        → EachWay (IsInside x own set_of) (receiver_options (here h f rest) by usage arguments given o)
+    receiver_ok off there handed None e = (tt, tt)
+    receiver_ok off there handed (Some Zero) e = null_ok there e (λ mode. absurd (no_lock_argument off (sym mode)))
+    receiver_ok off there handed (Some Nonzero) e = (tt, tt)
+    receiver_ok off there handed (Some (LockRef i)) e = (tt, tt)
+    receiver_ok off there handed (Some (Object type)) e =
+        target_ok (full_object h (has_receiver usage by) _ t.lo (length h.locks) type (receiver_means (Object type) e)) off (handed type e) _ (fits type)
 
   plain_call_ok : (n : Stand x own set_of p) (by : By) (usage : LockUse) (arguments : Args) (given : Gives) → act_at x.app n.f.method n.f.index ≡ Some (Call by usage arguments given)
-      → is_lock_call usage ≡ false → EachWay (IsInside x own set_of) (plain_call_options (here n.h n.f n.rest) by usage arguments given)
-  plain_call_ok n Static usage arguments given is off = static_ok n Static usage arguments given is refl off
-  plain_call_ok n Virtual usage arguments given is off = receiver_ok n Virtual usage arguments given is off (instance_receiver usage Virtual refl) (receiver_in n.f arguments) refl
-  plain_call_ok n Super usage arguments given is off = receiver_ok n Super usage arguments given is off (instance_receiver usage Super refl) (receiver_in n.f arguments) refl
-  plain_call_ok n Direct usage arguments given is off = receiver_ok n Direct usage arguments given is off (instance_receiver usage Direct refl) (receiver_in n.f arguments) refl
+      → is_lock_call usage ≡ false → gives_lock n.f arguments 0 ≡ false → EachWay (IsInside x own set_of) (plain_call_options (here n.h n.f n.rest) by usage arguments given)
+  plain_call_ok n Static usage arguments given is off free =
+      static_ok n Static usage arguments given is refl off (words_handed x own set_of p n (args_of arguments) (none_given n.f arguments free))
+  plain_call_ok n Virtual usage arguments given is off free =
+      receiver_ok n Virtual usage arguments given is off (instance_receiver usage Virtual refl) (λ type e. instance_handed x own set_of p n type (args_of arguments) e (none_given n.f arguments free)) (receiver_in n.f arguments) refl
+  plain_call_ok n Super usage arguments given is off free =
+      receiver_ok n Super usage arguments given is off (instance_receiver usage Super refl) (λ type e. instance_handed x own set_of p n type (args_of arguments) e (none_given n.f arguments free)) (receiver_in n.f arguments) refl
+  plain_call_ok n Direct usage arguments given is off free =
+      receiver_ok n Direct usage arguments given is off (instance_receiver usage Direct refl) (λ type e. instance_handed x own set_of p n type (args_of arguments) e (none_given n.f arguments free)) (receiver_in n.f arguments) refl
 
   module _ (n : Stand x own set_of p) (by : By) (usage : LockUse) (arguments : Args) (given : Gives) (is : act_at x.app n.f.method n.f.index ≡ Some (Call by usage arguments given)) where
     open n use {h, ok, f, rest, t}
@@ -281,7 +295,7 @@ module _ (x : SubjectParts) (own : ℕ) (set_of : Set) (p : Premises x own set_o
         let off : is_lock_call usage ≡ false = ap is_some does in
         way_if (IsInside x own set_of) (gives_lock f arguments 0) (Single (Over Escape)) (plain_call_options (here h f rest) by usage arguments given)
         (λ g. absurd (false≢true (sym (escapes_outside (is_lock_call usage) (row_of x own set_of p f) arguments off (no_escape n by usage arguments given is)) ∙ given_lock n by usage arguments given is 0 g)))
-        (λ _. plain_call_ok n by usage arguments given is off)
+        (λ free. plain_call_ok n by usage arguments given is off free)
 
     pub call_ok : EachWay (IsInside x own set_of) (call_options (here h f rest) by usage arguments given)
     call_ok = by_op_ok (op_of usage) refl

@@ -108,7 +108,7 @@ chosen_free (word ∷ words) ok =
 
 module _ (lo hi : ℕ) (h : Heap) where
   -- the values of a row, one by one
-  abbrev AreMeant : List Tag → List Value → Type 0
+  abbrev pub AreMeant : List Tag → List Value → Type 0
   AreMeant [] [] = Unit {0}
   AreMeant [] (v ∷ vs) = ⊥
   AreMeant (t ∷ ts) [] = ⊥
@@ -158,7 +158,7 @@ module _ (lo hi : ℕ) (h : Heap) where
   this_solid app None = tt
   this_solid app (Some component) = tt
 
-  meant_entry : (registers ins : ℕ) (ts : List Tag) (vs : List Value) → AreMeant ts vs → AreTagged (entry_row tag.Zero registers ins ts) (entry_row Zero registers ins vs) lo hi h
+  pub meant_entry : (registers ins : ℕ) (ts : List Tag) (vs : List Value) → AreMeant ts vs → AreTagged (entry_row tag.Zero registers ins ts) (entry_row Zero registers ins vs) lo hi h
   meant_entry registers ins ts vs a =
       meant_tagged _ _
       (meant_append (replicate (registers - ins) tag.Zero ++ fitted tag.Zero ins ts) (replicate (registers - ins) Zero ++ fitted Zero ins vs) (tag.Zero ∷ []) (Zero ∷ [])

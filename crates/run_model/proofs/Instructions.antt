@@ -1,5 +1,5 @@
 -- Each instruction keeps the relation.
-use Rattle.std.proofs.Common.{◌≡◌, ℕ, pred, ◌+◌, ◌<◌, Bool, true, false, if◌then◌else◌, List, [], ◌∷◌, length, map, get_or, set, slice_get, Option, Some, None, refl, sym, ap, ◌∙◌, inl, arith, subst, subst₂}
+use Rattle.std.proofs.Common.{◌≡◌, ℕ, pred, ◌+◌, ◌<◌, ◌≤◌, ◌≢◌, Bool, true, false, if◌then◌else◌, List, [], ◌∷◌, length, map, get_or, set, slice_get, Option, Some, None, refl, sym, ap, ◌∙◌, inl, arith, subst, subst₂}
 use Rattle.std.specs.Prelude.{◌==◌, not}
 use Rattle.std.proofs.lemmas.Bool.{eq-eqb, eqb-true, eqb-false, ne_eqb, false≢true}
 use Rattle.std.proofs.lemmas.List.{length-set}
@@ -21,7 +21,9 @@ use Rattle.app_model.specs.Words.{place_at, successor_at, successor_of}
 use Rattle.act_model.specs.Acts.{act_at}
 use Rattle.act_model.specs.Changes.{tag_in, after, after_stored, is_pair, put, result_cell, stored_change, thrown, written_tag}
 use Rattle.flow_model.specs.Derived.{Set}
+use Rattle.app_model.specs.Reach.{Assigns}
 use Rattle.app_model.specs.Sites.{site_at}
+use Rattle.flow_model.specs.TagFlow.{answered}
 use Rattle.app_model.specs.Facts.{Ret}
 use Rattle.app_model.specs.Masks.{in_mask}
 use Rattle.flow_model.specs.Status.{only}
@@ -40,13 +42,15 @@ use Rattle.run_model.specs.Relation.{AreTagged, Below, Each, IsInside, Means}
 use Rattle.run_model.proofs.Members.{EachWay, each_by, each_map, each_then, way_if}
 use Rattle.run_model.proofs.Rows.{null_ok, store_ok}
 use Rattle.run_model.proofs.Heaps.{held_above, emptied_status, kept_status, null_cell, null_heap, null_other, other_locks, status_is, taken_apart, taken_apart_cell, taken_cell, taken_heap, taken_other, taken_other_status, taken_status}
-use Rattle.run_model.proofs.Meanings.{KeepsBut, only_at, held_same, means_null, means_stored, may_be, new_stored, zero_stored}
+use Rattle.run_model.proofs.Meanings.{KeepsBut, handed_back, only_at, held_same, means_null, means_stored, may_be, new_stored, zero_stored}
 use Rattle.run_model.proofs.Registers.{tagged_map, tagged_put, tagged_read, tagged_retag, tagged_set}
 use Rattle.run_model.proofs.Entries.{written_ok}
 use Rattle.run_model.proofs.Masks.{fails_zero, in_if, passes_full, test_ok}
 use Rattle.flow_model.proofs.Slots.{stored_below}
 use Rattle.run_model.proofs.Calls.{call_ok, given_by_tag}
-use Rattle.run_model.proofs.Steps.{Premises, Stand, goes_ok, none_waits, only_status, out_of, quiet_ok, row_of, start_status, throws_ok}
+use Rattle.run_model.proofs.Callers.{Spares}
+use Rattle.run_model.proofs.Stores.{own_store}
+use Rattle.run_model.proofs.Steps.{Premises, Stand, goes_ok, live, only_status, out_of, quiet_ok, resumes_ok, row_of, start_status, throws_ok}
 
 if_stored : (b : Bool) → not b ≡ false → b ≡ true
 if_stored true e = refl
@@ -247,6 +251,17 @@ module _ (x : SubjectParts) (own : ℕ) (set_of : Set) (p : Premises x own set_o
         held = λ k off. held_same h emptied (cell h k) (λ i _. ap (λ (y : Lock). y.count) (other_locks h (set h.cells l.0 None) i));
       }
 
+      -- another field than this one is one to which this store does not go
+      other_field : (k : ℕ) → ¬ Assigns x.app x.graph f.method k → k ≢ l.0
+      other_field k off same = off (subst (λ (i : ℕ). Assigns x.app x.graph f.method i) (sym same) (own_store x.app x.graph f.method f.index from l when is))
+
+      null_spares : Spares x f.method t.lo h emptied
+      null_spares = record {
+        more = omega arith;
+        loose = λ i from below loose. other_locks h (set h.cells l.0 None) i;
+        cells = λ k off. null_other number h l.0 ok in_range k (other_field k off);
+      }
+
       null_mask : in_mask (slot_passes own l tag.Zero (status h own)) (status emptied own) ≡ true
       null_mask =
           in_if (l.0 == own) (stored_passes tag.Zero (status h own)) (only (status h own)) (status emptied own)
@@ -260,14 +275,14 @@ module _ (x : SubjectParts) (own : ℕ) (set_of : Set) (p : Premises x own set_o
       store_null there =
           let e = zero_stored (tag_in row from) t.lo (length h.locks) h (register_means from Zero there) may_store in
           let tags = tagged_map row f.registers t.lo (length h.locks) h t.registers (stored_change l.0 tag.Zero) (length emptied.locks) emptied (means_null t.lo (length h.locks) (length emptied.locks) h emptied l.0 null_keeps) in (
-            goes_ok x own set_of p n emptied f.registers (WriteSlot from l when) 0 (null_heap number h l.0 ok in_range) is (omega arith)
+            goes_ok x own set_of p n emptied f.registers (WriteSlot from l when) 0 (null_heap number h l.0 ok in_range) is null_spares
                 (store_mask _ (status emptied own) (subst (λ (q : Tag). in_mask (slot_passes own l q (status h own)) (status emptied own) ≡ true) (sym e) null_mask))
                 (subst (λ (q : Tag). AreTagged (after_stored row from l q) f.registers t.lo (length emptied.locks) emptied) (sym e) tags),
             tt,
           )
 
       -- of a lock that was made at site z, and that no field owns
-      module _ (i z : ℕ) (there : register f from ≡ Some (LockRef i)) (e : tag_in row from ≡ tag.New z) (below : i < length h.locks) (loose : (lock_at h i).owner ≡ None) (made : (lock_at h i).site ≡ z) where
+      module _ (i z : ℕ) (there : register f from ≡ Some (LockRef i)) (e : tag_in row from ≡ tag.New z) (since : t.lo ≤ i) (below : i < length h.locks) (loose : (lock_at h i).owner ≡ None) (made : (lock_at h i).site ≡ z) where
         abbrev stored : Heap
         stored = with_stored h l.0 i
 
@@ -284,6 +299,13 @@ module _ (x : SubjectParts) (own : ℕ) (set_of : Set) (p : Premises x own set_o
         same_length : length stored.locks ≡ length h.locks
         same_length = length-set h.locks i (record { owner = Some l.0; count = (lock_at h i).count; counted = (lock_at h i).counted; site = (lock_at h i).site })
 
+        new_spares : Spares x f.method t.lo h stored
+        new_spares = record {
+          more = omega (arith, same_length);
+          loose = λ j from before free. taken_apart number h l.0 ok in_range i below loose j (λ same. (let later : t.lo ≤ j = rw same since in omega (arith, later, before)));
+          cells = λ k off. taken_other number h l.0 ok in_range i below loose k (other_field k off);
+        }
+
         new_tags : AreTagged (map (stored_change l.0 (tag.New z)) row) f.registers t.lo (length stored.locks) stored
         new_tags =
             tagged_map row f.registers t.lo (length h.locks) h t.registers (stored_change l.0 (tag.New z)) (length stored.locks) stored
@@ -296,7 +318,7 @@ module _ (x : SubjectParts) (own : ℕ) (set_of : Set) (p : Premises x own set_o
             let held : get_or f.registers from Zero ≡ LockRef i = get_or_from_slice_get f.registers from (LockRef i) Zero there in
             let means : Means (tag.Field l) (get_or f.registers from Zero) t.lo (length stored.locks) stored = held ∙ ap cell_value (sym (taken_cell number h l.0 ok in_range i below loose)) in
             let tags = tagged_retag (map (stored_change l.0 (tag.New z)) row) f.registers t.lo (length stored.locks) stored new_tags from (tag.Field l) means in
-            goes_ok x own set_of p n stored f.registers (WriteSlot from l when) 0 (taken_heap number h l.0 ok in_range i below loose) is (omega (arith, same_length))
+            goes_ok x own set_of p n stored f.registers (WriteSlot from l when) 0 (taken_heap number h l.0 ok in_range i below loose) is new_spares
             (store_mask _ (status stored own) (subst (λ (q : Tag). in_mask (slot_passes own l q (status h own)) (status stored own) ≡ true) (sym e) new_mask))
             (subst (λ (q : Tag). AreTagged (after_stored row from l q) f.registers t.lo (length stored.locks) stored) (sym e) tags)
 
@@ -308,12 +330,13 @@ module _ (x : SubjectParts) (own : ℕ) (set_of : Set) (p : Premises x own set_o
           let new = new_stored (tag_in row from) i t.lo (length h.locks) h (register_means from (LockRef i) there) may_store in
           let n = new.2 in
           let same = same_lock i n.i n.is in
+          let since : t.lo ≤ i = subst (λ j. t.lo ≤ j) same n.from in
           let below : i < length h.locks = subst (λ j. j < length h.locks) same n.below in
           let loose : (lock_at h i).owner ≡ None = subst (λ j. (lock_at h j).owner ≡ None) same n.loose in
           let made : (lock_at h i).site ≡ new.0 = subst (λ j. (lock_at h j).site ≡ new.0) same n.made in
           way_if (IsInside x own set_of) (is_owned (lock_at h i).owner) (Single (Over Escape)) (Single (goes_on (with_heap here (with_stored h l.0 i)) f.registers 0))
           (λ owned. absurd (false≢true (sym (ap is_owned loose) ∙ owned)))
-          (λ _. (store_new i new.0 there new.1 below loose made, tt))
+          (λ _. (store_new i new.0 there new.1 since below loose made, tt))
 
       store_ok_by : (v : Value) → register f from ≡ Some v → EachWay (IsInside x own set_of) (store_options here l.0 v)
       store_ok_by Zero there = store_null there
@@ -328,10 +351,13 @@ module _ (x : SubjectParts) (own : ℕ) (set_of : Set) (p : Premises x own set_o
     write_slot : (from : ℕ) (l : LockNo) (when : Throws) → act_at x.app f.method f.index ≡ Some (WriteSlot from l when) → EachWay (IsInside x own set_of) (throws_options here when (write_options here l (register f from)))
     write_slot from l when is = by_throws (WriteSlot from l when) is t.registers when _ refl (λ mask. store_value from l when is mask (register f from) refl)
 
-    -- ---- returns
-    returns_ok : (answer : Returned) → act_at x.app f.method f.index ≡ Some (Return answer) → (v : Value) (frames : List Frame) → Below x own set_of p.root (start_status x own set_of p) h frames f.method t.e t.lo → IsInside x own set_of (resumes x p.at h frames v)
-    returns_ok answer is v [] b =
-        let ret : set_of (Ret f.method t.e (status h own)) ≡ true = p.closed.by _ _ (inl (I1_return (ap is_return is))) (t.at, tt) in
+    returns_fact : (answer : Returned) → act_at x.app f.method f.index ≡ Some (Return answer) → set_of (Ret f.method t.e (status h own)) ≡ true
+    returns_fact answer is = p.closed.by _ _ (inl (I1_return (ap is_return is))) (t.at, tt)
+
+    -- ---- returns: what is handed back is as the tag of the answer says
+    returns_ok : (answer : Returned) → act_at x.app f.method f.index ≡ Some (Return answer) → (v : Value) → Means (answered answer row) v t.lo (length h.locks) h → (frames : List Frame) → Below x own set_of p.root (start_status x own set_of p) h frames f.method t.e t.lo
+        → IsInside x own set_of (resumes x p.at h frames v)
+    returns_ok answer is v means [] b =
         rw p.callback.there (record {
           before = p.at;
           edge = p.edge;
@@ -343,18 +369,18 @@ module _ (x : SubjectParts) (own : ℕ) (set_of : Set) (p : Premises x own set_o
           states = refl;
           heap = ok;
           carried = by_method p.root p.method;
-          has = (subst₂ (λ m e. set_of (Ret m e (status h own)) ≡ true) b.0 b.1 ret, tt);
+          has = (subst₂ (λ m e. set_of (Ret m e (status h own)) ≡ true) b.0 b.1 (returns_fact answer is), tt);
         })
-    returns_ok answer is v (g ∷ frames) b = absurd (none_waits x own set_of h g f.method t.e t.lo b.0 b.1 p.tagged b.2)
+    returns_ok answer is v means (g ∷ frames) b = resumes_ok x own set_of p h ok g frames f.method t.e t.lo t.from b f.index answer v is (live x own set_of p n) (returns_fact answer is) means
 
     return_ok : (answer : Returned) → act_at x.app f.method f.index ≡ Some (Return answer) → EachWay (IsInside x own set_of) (return_options here answer)
-    return_ok returned.Nothing is = (returns_ok returned.Nothing is Zero rest t.below, tt)
-    return_ok returned.Wide is = (returns_ok returned.Wide is Zero rest t.below, tt)
-    return_ok (returned.Register r) is = answered (register f r)
+    return_ok returned.Nothing is = (returns_ok returned.Nothing is Zero refl rest t.below, tt)
+    return_ok returned.Wide is = (returns_ok returned.Wide is Zero refl rest t.below, tt)
+    return_ok (returned.Register r) is = by (register f r) refl
       where
-        answered : (o : Option Value) → EachWay (IsInside x own set_of) (return_by here o)
-        answered None = (tt, tt)
-        answered (Some v) = (returns_ok (returned.Register r) is v rest t.below, tt)
+        by : (o : Option Value) → register f r ≡ o → EachWay (IsInside x own set_of) (return_by here o)
+        by None there = (tt, tt)
+        by (Some v) there = (returns_ok (returned.Register r) is v (handed_back v t.lo (length h.locks) h (tag_in row r) (register_means r v there)) rest t.below, tt)
 
     -- ---- an array of arguments
     fill_ok : (arguments : Args) (kind : TypeNo) → act_at x.app f.method f.index ≡ Some (Fill arguments kind) → EachWay (IsInside x own set_of) (fill_options here arguments kind)

@@ -8,10 +8,14 @@ pub mod Entries
 pub mod Callbacks
 pub mod Targets
 pub mod Scope
+pub mod Stores
+pub mod Callers
 pub mod Steps
 pub mod Masks
 pub mod LockCalls
+pub mod Entering
 pub mod Calls
 pub mod Instructions
 pub mod Runs
 pub mod Worked
+pub mod WorkedCalls

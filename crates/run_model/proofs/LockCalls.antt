@@ -34,6 +34,7 @@ use Rattle.run_model.proofs.Heaps.{cell_same, changed_status, changed_other, cha
 use Rattle.run_model.proofs.Meanings.{KeepsBut, nowhere, only_at, held_same, means_counted, means_kept, means_thrown}
 use Rattle.run_model.proofs.Registers.{tagged_map, tagged_set, tagged_read}
 use Rattle.run_model.proofs.Masks.{by_own, column_ok, mode_ok}
+use Rattle.run_model.proofs.Callers.{Spares, spares_all}
 use Rattle.run_model.proofs.Steps.{Premises, Stand, out_of, row_of, goes_ok, throws_ok, only_status}
 
 module _ (x : SubjectParts) (own : ℕ) (set_of : Set) (p : Premises x own set_of) where
@@ -47,14 +48,14 @@ module _ (x : SubjectParts) (own : ℕ) (set_of : Set) (p : Premises x own set_o
     open n use {h, f, rest, t}
 
     -- a call that answers
-    pub answer_ok : (h' : Heap) (usage : LockUse) (v : Value) → act_at x.app f.method f.index ≡ Some (Call by usage arguments given) → IsHeap (slot_count x) h' → length h.locks ≤ length h'.locks
+    pub answer_ok : (h' : Heap) (usage : LockUse) (v : Value) → act_at x.app f.method f.index ≡ Some (Call by usage arguments given) → IsHeap (slot_count x) h' → Spares x f.method t.lo h h'
         → in_mask (passes own (Call by usage arguments given) (row_of x own set_of p f) (out_of x own set_of p f) 0 (status h own)) (status h' own) ≡ true → AreTagged (thrown (Call by usage arguments given) (row_of x own set_of p f)) f.registers t.lo (length h'.locks) h'
         → Means (result_tag (site_at x.app f.method f.index) usage given (receiver_tag f arguments)) v t.lo (length h'.locks) h' → IsInside x own set_of (answers (here_of x p.at h' f rest) v)
-    answer_ok h' usage v is kept le mask tagged means =
+    answer_ok h' usage v is kept spares mask tagged means =
         let row = thrown (Call by usage arguments given) (row_of x own set_of p f) in
         let result = result_tag (site_at x.app f.method f.index) usage given (receiver_tag f arguments) in
         let written = tagged_set row f.registers t.lo (length h'.locks) h' tagged (result_index f) result v means in
-        goes_ok x own set_of p n h' (set f.registers (result_index f) v) (Call by usage arguments given) 0 kept is le mask
+        goes_ok x own set_of p n h' (set f.registers (result_index f) v) (Call by usage arguments given) 0 kept is spares mask
         (subst (λ (r : ℕ). AreTagged (set row r result) (set f.registers (result_index f) v) t.lo (length h'.locks) h') (ap pred t.registers.count) written)
 
     -- a call that throws
@@ -90,6 +91,9 @@ module _ (x : SubjectParts) (own : ℕ) (set_of : Set) (p : Premises x own set_o
       held = λ l off. held_same h (with_lock y) (cell h l) (λ j is. ap (λ (z : Lock). z.count) (changed_apart number h k.0 i y ok c o l j (eqb-false l k.0 off) is));
     }
 
+    lock_spares : (y : Lock) → y.owner ≡ (lock_at h i).owner → Spares x f.method t.lo h (with_lock y)
+    lock_spares y o = record { more = longer y; loose = λ j from below l. changed_loose number h k.0 i y ok c o j l; cells = λ l off. cell_same h (set h.locks i y) l }
+
     counted_tags : (y : Lock) → y.owner ≡ (lock_at h i).owner → AreTagged (map (held_change (receiver_tag f arguments)) row) f.registers t.lo (length (with_lock y).locks) (with_lock y)
     counted_tags y o =
         tagged_map row f.registers t.lo (length h.locks) h t.registers (held_change (receiver_tag f arguments)) (length (with_lock y).locks) (with_lock y)
@@ -109,13 +113,13 @@ module _ (x : SubjectParts) (own : ℕ) (set_of : Set) (p : Premises x own set_o
     acquire_step is =
         let count = (lock_at h i).count in
         let y = recounted (suc count) in
-        (answer_ok n by arguments given (with_lock y) Acquire Zero is (changed_ok number h k.0 i y ok c refl) (longer y) (by_column y refl acquire_passes (acquire_ok (is_lost h k.0) count (lock_at h i).counted)) (counted_tags y refl) refl, tt)
+        (answer_ok n by arguments given (with_lock y) Acquire Zero is (changed_ok number h k.0 i y ok c refl) (lock_spares y refl) (by_column y refl acquire_passes (acquire_ok (is_lost h k.0) count (lock_at h i).counted)) (counted_tags y refl) refl, tt)
 
     release_answers : act_at x.app f.method f.index ≡ Some (Call by Release arguments given) → (count : ℕ) → in_mask (release_passes (status_of (is_lost h k.0) (some (lock_at h i).count (lock_at h i).counted))) (status_of (is_lost h k.0) (some count (lock_at h i).counted)) ≡ true
         → EachWay (IsInside x own set_of) (Single (answers (with_heap here (with_count h i count)) Zero))
     release_answers is count table =
         let y = recounted count in
-        (answer_ok n by arguments given (with_lock y) Release Zero is (changed_ok number h k.0 i y ok c refl) (longer y) (by_column y refl release_passes table) (counted_tags y refl) refl, tt)
+        (answer_ok n by arguments given (with_lock y) Release Zero is (changed_ok number h k.0 i y ok c refl) (lock_spares y refl) (by_column y refl release_passes table) (counted_tags y refl) refl, tt)
 
     release_by : act_at x.app f.method f.index ≡ Some (Call by Release arguments given) → (b : Bool) (n : ℕ) → (lock_at h i).counted ≡ b → (lock_at h i).count ≡ n → EachWay (IsInside x own set_of) (release_options here i b n)
     release_by is true zero b z =
@@ -137,7 +141,7 @@ module _ (x : SubjectParts) (own : ℕ) (set_of : Set) (p : Premises x own set_o
         let table = is_held_ok (is_lost h k.0) (lock_at h i).count (lock_at h i).counted in
         let mask = subst (λ (q : Tag). in_mask (lock_call_passes is_held_passes (nullness own q) (status h own)) (status h own) ≡ true) (sym e) (column_ok own h h k is_held_passes i (lock_at h i).count (lock_at h i).counted c (status_at h k.0 (Some i) c) (λ ne. refl) table) in
         let means = subst (λ (q : Tag). Means (held_tag q) answer t.lo (length h.locks) h) (sym e) (ap (held_in h) (sym c)) in
-        (answer_ok n by arguments given h IsHeld answer is ok (omega arith) mask (thrown_ok n by arguments given IsHeld) means, tt)
+        (answer_ok n by arguments given h IsHeld answer is ok (spares_all x f.method t.lo h) mask (thrown_ok n by arguments given IsHeld) means, tt)
 
     -- ---- setReferenceCounted
     abbrev remade : Bool → Lock
@@ -158,7 +162,7 @@ module _ (x : SubjectParts) (own : ℕ) (set_of : Set) (p : Premises x own set_o
         let means = tagged_read row f.registers t.lo (length h.locks) h t.registers (argument_of arguments) v there in
         let table = mode_ok own t.lo (length h.locks) h (argument_tag f arguments) v means (is_lost h k.0) (lock_at h i).count (lock_at h i).counted in
         let tags = tagged_map row f.registers t.lo (length h.locks) h t.registers (call_change Mode (receiver_tag f arguments)) (length (with_lock y).locks) (with_lock y) (λ u w m. means_kept t.lo (length h.locks) (length (with_lock y).locks) h (with_lock y) (mode_keeps (not (is_null v))) u w m) in
-        (answer_ok n by arguments given (with_lock y) Mode Zero is (changed_ok number h k.0 i y ok c refl) (longer y) (by_column y refl (mode_passes (argument_tag f arguments)) table) tags refl, tt)
+        (answer_ok n by arguments given (with_lock y) Mode Zero is (changed_ok number h k.0 i y ok c refl) (lock_spares y refl) (by_column y refl (mode_passes (argument_tag f arguments)) table) tags refl, tt)
 
     -- ---- what a call does as a lock call
     own_operation_ok : (usage : LockUse) → act_at x.app f.method f.index ≡ Some (Call by usage arguments given) → IfSome (op_of usage) (λ op. EachWay (IsInside x own set_of) (operation_options here op arguments i))

@@ -8,6 +8,7 @@ use Rattle.app_model.specs.declared.tag.Tag.TheVariants as tag
 use Rattle.app_model.specs.declared.lock_use.LockUse.{LockUse}
 use Rattle.app_model.specs.declared.lock_use.LockUse.TheVariants.{Plain, Make, Acquire, Release, IsHeld, Mode, Wrong}
 use Rattle.act_model.specs.Changes.{stored_change, held_change, call_change, without_held}
+use Rattle.act_model.specs.Entries.{entering}
 use Rattle.flow_model.specs.Scope.{may_be_lock, escapes_as_receiver, may_be_stored}
 use Rattle.act_model.specs.Tags.{Under, itself, bot_all, zero_any, solid_any, held_any, all_mixed}
 use Rattle.run_model.specs.Heaps.{Value, Zero, Nonzero, Object, LockRef, Heap, Lock, cell, cell_value, held_value, is_lock, lock_at}
@@ -102,10 +103,43 @@ held_same h h' (Some i) same = ap held_value (same i refl)
 abbrev pub KeepsLoose : ℕ → ℕ → Heap → Heap → Type 0
 KeepsLoose lo hi h h' = (i : ℕ) → lo ≤ i → i < hi → (lock_at h i).owner ≡ None → lock_at h' i ≡ lock_at h i
 
-new_kept : (z : ℕ) (v : Value) (lo hi hi' : ℕ) (h h' : Heap) → hi ≤ hi' → KeepsLoose lo hi h h' → IsNew z v lo hi h → IsNew z v lo hi' h'
+pub new_kept : (z : ℕ) (v : Value) (lo hi hi' : ℕ) (h h' : Heap) → hi ≤ hi' → KeepsLoose lo hi h h' → IsNew z v lo hi h → IsNew z v lo hi' h'
 new_kept z v lo hi hi' h h' le k x =
     let same = k x.i x.from x.below x.loose in
     record { i = x.i; is = x.is; from = x.from; below = omega (arith, x.below); loose = ap (λ (y : Lock). y.owner) same ∙ x.loose; made = ap (λ (y : Lock). y.site) same ∙ x.made }
+
+-- from an earlier number of locks on, as much holds
+pub means_lower : (t : Tag) (v : Value) (lo from hi : ℕ) (h : Heap) → lo ≤ from → Means t v from hi h → Means t v lo hi h
+means_lower tag.Bot v lo from hi h le ok = ok
+means_lower tag.Zero v lo from hi h le ok = ok
+means_lower tag.Solid v lo from hi h le ok = ok
+means_lower (tag.Held l) v lo from hi h le ok = ok
+means_lower tag.Any v lo from hi h le ok = ok
+means_lower (tag.Field l) v lo from hi h le ok = ok
+means_lower (tag.New z) v lo from hi h le ok = record { i = ok.i; is = ok.is; from = omega (arith, le, ok.from); below = ok.below; loose = ok.loose; made = ok.made }
+means_lower tag.Mixed v lo from hi h le ok = ok
+
+-- what a return hands back: nothing of a lock's being held
+pub handed_back : (v : Value) (lo hi : ℕ) (h : Heap) (t : Tag) → Means t v lo hi h → Means (entering t) v lo hi h
+handed_back v lo hi h tag.Bot ok = ok
+handed_back v lo hi h tag.Zero ok = ok
+handed_back v lo hi h tag.Solid ok = ok
+handed_back v lo hi h (tag.Held l) ok = ap is_lock ok ∙ held_no_lock h (cell h l.0)
+handed_back v lo hi h tag.Any ok = ok
+handed_back v lo hi h (tag.Field l) ok = ok
+handed_back v lo hi h (tag.New z) ok = ok
+handed_back v lo hi h tag.Mixed ok = ok
+
+-- an argument, which is no lock, as a method that is entered has it
+pub handed_on : (v : Value) (lo hi since : ℕ) (h : Heap) (t : Tag) → is_lock v ≡ false → Means t v lo hi h → Means (entering t) v since since h
+handed_on v lo hi since h tag.Bot no_lock ok = ok
+handed_on v lo hi since h tag.Zero no_lock ok = ok
+handed_on v lo hi since h tag.Solid no_lock ok = ok
+handed_on v lo hi since h (tag.Held l) no_lock ok = no_lock
+handed_on v lo hi since h tag.Any no_lock ok = ok
+handed_on v lo hi since h (tag.Field l) no_lock ok = ok
+handed_on v lo hi since h (tag.New z) no_lock ok = absurd (false≢true (sym no_lock ∙ ap is_lock ok.is))
+handed_on v lo hi since h tag.Mixed no_lock ok = ok
 
 -- what is said of a frame's values, but for the field under the test
 pub record KeepsBut (but : ℕ → Bool) (lo hi hi' : ℕ) (h h' : Heap) : Type 0 where

@@ -1,15 +1,20 @@
 -- What is in scope has what soundness asks: its tags follow the code, no lock escapes, and no call of a lock is wrong.
-use Rattle.std.proofs.Common.{◌≡◌, ℕ, ◌+◌, ◌<◌, ◌≤◌, Bool, true, false, List, [], length, Option, Some, None, slice_get, refl, sym, ap, ◌∙◌, arith, subst, ⊎_elim}
-use Rattle.std.specs.Prelude.{slice_index, slice_index_or}
+use Rattle.std.proofs.Common.{◌≡◌, ◌≢◌, ℕ, pred, ◌+◌, ◌<◌, ◌≤◌, map, set, Bool, true, false, List, length, Option, Some, None, slice_get, refl, sym, ap, ◌∙◌, arith, subst, ⊎_elim}
+use Rattle.std.specs.Prelude.{Contains, slice_index, slice_index_or}
 use Rattle.std.specs.List.{All}
-use Rattle.std.proofs.lemmas.Bool.{cases_lt}
-use Rattle.std.proofs.lemmas.List.{get_or-map, get_or_past}
+use Rattle.std.proofs.lemmas.Bool.{cases_eq, cases_lt}
+use Rattle.std.proofs.lemmas.List.{get_or-map, get_or-set_other, get_or-set_same, get_or_past, length-map, length-set}
 use Rattle.std.proofs.lemmas.List.Elements.{All-get_or}
 use Rattle.std.proofs.lemmas.Option.{get_or_from_slice_get, slice_get_cases, slice_get_within}
 use Rattle.dalvik.specs.declared.body.Place.{Place}
 use Rattle.dalvik.specs.Body.{BodyRows, IsBody, IsSoundPlace}
 use Rattle.app_model.specs.declared.rows.MethodRow.{MethodRow}
 use Rattle.app_model.specs.declared.tag.Tag.{Tag}
+use Rattle.app_model.specs.declared.tag.Tag.TheVariants as tag
+use Rattle.app_model.specs.declared.calls.By.{By}
+use Rattle.app_model.specs.declared.lock_use.LockUse.{LockUse}
+use Rattle.dalvik.specs.declared.ins.Args.{Args}
+use Rattle.app_model.specs.Targets.{is_plain, method_no}
 use Rattle.app_model.specs.CallGraph as graph
 use Rattle.app_model.specs.Components.{callback_at}
 use Rattle.app_model.specs.Sites.{site_at}
@@ -18,17 +23,20 @@ use Rattle.app_model.specs.Words.{code_len, handler_at, handler_of, no_body, pc_
 use Rattle.app_model.proofs.Callees.{enterable}
 use Rattle.app_model.proofs.Cells.{length-row_at}
 use Rattle.act_model.specs.declared.act.Act.{Act}
-use Rattle.act_model.specs.declared.act.Act.TheVariants.{Call}
+use Rattle.act_model.specs.declared.act.Act.TheVariants.{Call, Return}
+use Rattle.act_model.specs.declared.act.Gives.{Gives}
+use Rattle.act_model.specs.declared.act.Returned.{Returned}
 use Rattle.act_model.specs.Acts.{act_at}
-use Rattle.act_model.specs.Changes.{after}
-use Rattle.act_model.specs.Entries.{callback_row, callback_words}
+use Rattle.act_model.specs.Changes.{after, called, called_change, result_cell, tag_in}
+use Rattle.act_model.specs.Entries.{call_words, callback_row, callback_words}
+use Rattle.act_model.specs.Tags.{Under}
 use Rattle.act_model.proofs.Lengths.{length_after, length_entry, length_thrown}
 use Rattle.flow_model.specs.Breaks.{IsEntered, escape, wrong_call}
 use Rattle.flow_model.specs.InScope.{IsInScope, candidate_of}
 use Rattle.flow_model.specs.Scope.{is_escape, is_wrong_call}
-use Rattle.flow_model.specs.TagFlow.{Flow, IsLive, begins, goes_on, back_from_outside, throws, is_call, leads_on}
-use Rattle.run_model.specs.Tagged.{IsTagged, IsUnder}
-use Rattle.run_model.proofs.Targets.{none_outside}
+use Rattle.flow_model.specs.TagFlow.{Flow, IsLive, answered, back_from_outside, begins, callee_row, comes_back, enters, goes_on, is_call, leads_on, passes_call, throws, throws_out}
+use Rattle.run_model.specs.Tagged.{IsFollowed, IsTagged, IsUnder, is_plain_call}
+use Rattle.run_model.proofs.Targets.{foreign_outside}
 
 module _ (x : SubjectParts) (sound : IsSubject x) (scope : IsInScope x) where
   -- a flow into an instruction is under its row
@@ -105,30 +113,96 @@ module _ (x : SubjectParts) (sound : IsSubject x) (scope : IsInScope x) where
           by false is = refl
           by true is = absurd (breaks place.pc (ap pc_of there) is)
 
-  module _ (alone : (m i : ℕ) → is_reached x m ≡ true → callees_at x m i ≡ []) where
-    outside_of : (m i : ℕ) (a : Act) → is_reached x m ≡ true → act_at x.app m i ≡ Some a → is_call a ≡ true → graph.outside_at x.graph m i ≡ true
-    outside_of m i (Call by usage arguments gives) reached is call =
-        none_outside x m i by usage arguments gives (scope.graph.rows m i) is sound.sound (alone m i reached)
-    outside_of m i other reached is call = absurd (cc)
+  -- ---- on to a successor; a plain call by what it calls outside
+  outside_of : (m i : ℕ) (a : Act) → act_at x.app m i ≡ Some a → is_call a ≡ true → (is_plain_call a ≡ true → graph.outside_at x.graph m i ≡ true) → graph.outside_at x.graph m i ≡ true
+  outside_of m i (Call by usage arguments gives) is call plain = from (is_plain usage) refl
+    where
+      from : (b : Bool) → is_plain usage ≡ b → graph.outside_at x.graph m i ≡ true
+      from true own = plain own
+      from false foreign = foreign_outside x m i by usage arguments gives (scope.graph.rows m i) is sound.sound foreign
+  outside_of m i other is call plain = absurd (cc)
 
-    goes_under : (m i k j : ℕ) (a : Act) → is_reached x m ≡ true → IsLive (row_at x m i) → act_at x.app m i ≡ Some a → leads_on a ≡ true → successor_at x.app m i k ≡ Some j → IsUnder (after (site_at x.app m i) a (row_at x m i)) (row_at x m j)
-    goes_under m i k j a reached live is leads to = by (is_call a) refl
+  goes_under : (m i k j : ℕ) (a : Act) → is_reached x m ≡ true → IsLive (row_at x m i) → act_at x.app m i ≡ Some a → leads_on a ≡ true → (is_plain_call a ≡ true → graph.outside_at x.graph m i ≡ true) → successor_at x.app m i k ≡ Some j
+      → IsUnder (after (site_at x.app m i) a (row_at x m i)) (row_at x m j)
+  goes_under m i k j a reached live is leads plain to = by (is_call a) refl
+    where
+      same : length (after (site_at x.app m i) a (row_at x m i)) ≡ length (row_at x m j)
+      same = length_after (site_at x.app m i) a (row_at x m i) ∙ same_width m i j
+
+      by : (b : Bool) → is_call a ≡ b → IsUnder (after (site_at x.app m i) a (row_at x m i)) (row_at x m j)
+      by false no_call = flow_under (goes_on i k a is leads no_call to live) (successor_below m i k j to) same
+      by true call = flow_under (back_from_outside i k a is call (outside_of m i a is call plain) to live) (successor_below m i k j to) same
+
+  -- ---- into a callee, and back
+  module _ (m i n : ℕ) (reached : is_reached x m ≡ true) (live : IsLive (row_at x m i)) (callee : Contains (callees_at x m i) (method_no n)) where
+    abbrev row : List Tag
+    row = row_at x m i
+
+    abbrev gone : ℕ → Bool
+    gone = scope.tags.gone n
+
+    callee_reached : is_reached x n ≡ true
+    callee_reached = sound.reaches.callees m i (method_no n) reached callee
+
+    enters_under : (by : By) (usage : LockUse) (arguments : Args) (gives : Gives) → act_at x.app m i ≡ Some (Call by usage arguments gives) → IsUnder (callee_row (slice_get x.app.methods n) (call_words by row arguments)) (row_at x n 0)
+    enters_under by usage arguments gives is =
+        flow_under (enters m i (method_no n) by usage arguments gives is callee live) (sound.reaches.begins n callee_reached) (width (slice_get x.app.methods n) refl)
       where
-        same : length (after (site_at x.app m i) a (row_at x m i)) ≡ length (row_at x m j)
-        same = length_after (site_at x.app m i) a (row_at x m i) ∙ same_width m i j
+        width : (o : Option MethodRow) → slice_get x.app.methods n ≡ o → length (callee_row o (call_words by row arguments)) ≡ length (row_at x n 0)
+        width None none = absurd (⊎_elim (λ at. let e = sym at.2 ∙ none in cc) (λ past. omega (arith, (enterable x n sound callee_reached).there, past.0)) (slice_get_cases x.app.methods n).1)
+        width (Some method) there = length_entry method.registers method.ins (call_words by row arguments) (sound.sound.methods n method there).fits ∙ sym (width_there n method there)
 
-        by : (b : Bool) → is_call a ≡ b → IsUnder (after (site_at x.app m i) a (row_at x m i)) (row_at x m j)
-        by false no_call = flow_under (goes_on i k a is leads no_call to live) (successor_below m i k j to) same
-        by true call = flow_under (back_from_outside i k a is call (outside_of m i a reached is call) to live) (successor_below m i k j to) same
+    called_width : length (called gone row) ≡ length row
+    called_width = length-map row (called_change gone)
 
-    pub scope_tagged : IsTagged x
-    scope_tagged = record {
-      callbacks = sound.reaches.callbacks;
-      entries = entry_under;
-      flows = goes_under;
-      throws = λ m i k j a reached live is can to. flow_under (throws i k a is can to live) (handler_below m i k j to) (length_thrown a (row_at x m i) ∙ same_width m i j);
-      no_escape = λ m i reached. unbroken_by m i is_escape (λ row. refl) (λ pc there broken. scope.unbroken 4 m pc (escape i (entered m reached) there broken));
-      no_wrong_call = λ m i reached. unbroken_by m i is_wrong_call (λ row. refl) (λ pc there broken. scope.unbroken 5 m pc (wrong_call i (entered m reached) there broken));
-      graph = λ m i reached invoked. scope.graph.rows m i;
-      alone = alone;
+    returns_under : (k j e : ℕ) (answer : Returned) → successor_at x.app m i k ≡ Some j → act_at x.app n e ≡ Some (Return answer) → IsLive (row_at x n e)
+        → IsUnder (set (called gone row) (result_cell row) (answered answer (row_at x n e))) (row_at x m j)
+    returns_under k j e answer to is handed = record {
+      same = length-set (called gone row) (result_cell row) result ∙ called_width ∙ same_width m i j;
+      each = λ r below.
+          let here : r < length row = omega (arith, below, length-set (called gone row) (result_cell row) result, called_width) in
+          ⊎_elim (λ same. at_result r here same) (λ other. elsewhere r here other) (cases_eq r (result_cell row));
     }
+      where
+        result : Tag
+        result = answered answer (row_at x n e)
+
+        at_result : (r : ℕ) → r < length row → r ≡ result_cell row → Under (tag_in (set (called gone row) (result_cell row) result) r) (tag_in (row_at x m j) r)
+        at_result r here same =
+            let bots = map (λ (t : Tag). tag.Bot) row in
+            let cell : result_cell row < length row = omega (arith, here, same) in
+            let low : tag_in (set (called gone row) (result_cell row) result) r ≡ result = ap (tag_in (set (called gone row) (result_cell row) result)) same ∙ get_or-set_same (called gone row) (result_cell row) result tag.Bot (omega (arith, cell, called_width)) in
+            let flow : tag_in (set bots (result_cell row) result) r ≡ result = ap (tag_in (set bots (result_cell row) result)) same ∙ get_or-set_same bots (result_cell row) result tag.Bot (omega (arith, cell, length-map row (λ (t : Tag). tag.Bot))) in
+            let under = scope.tags.least.closed.by (comes_back i k e (method_no n) answer callee to live is handed) (successor_below m i k j to) r (omega (arith, here, length-set bots (result_cell row) result, length-map row (λ (t : Tag). tag.Bot))) in
+            subst (λ (t : Tag). Under t (tag_in (row_at x m j) r)) (flow ∙ sym low) under
+
+        elsewhere : (r : ℕ) → r < length row → r ≢ result_cell row → Under (tag_in (set (called gone row) (result_cell row) result) r) (tag_in (row_at x m j) r)
+        elsewhere r here other =
+            let low : tag_in (set (called gone row) (result_cell row) result) r ≡ tag_in (called gone row) r = get_or-set_other (called gone row) (result_cell row) r result tag.Bot other in
+            let cell = result_cell (called gone row) in
+            let apart : r ≢ cell = λ same. other (same ∙ ap pred called_width) in
+            let flow : tag_in (set (called gone row) cell tag.Bot) r ≡ tag_in (called gone row) r = get_or-set_other (called gone row) cell r tag.Bot tag.Bot apart in
+            let under = scope.tags.least.closed.by (passes_call i k (method_no n) callee to live) (successor_below m i k j to) r (omega (arith, here, length-set (called gone row) cell tag.Bot, called_width)) in
+            subst (λ (t : Tag). Under t (tag_in (row_at x m j) r)) (flow ∙ sym low) under
+
+    followed : IsFollowed x m i n
+    followed = record {
+      reached = callee_reached;
+      gone = gone;
+      assigns = scope.tags.stores n;
+      enters = enters_under;
+      returns = returns_under;
+      throws = λ k j to. flow_under (throws_out i k (method_no n) callee to live) (handler_below m i k j to) (called_width ∙ same_width m i j);
+    }
+
+  pub scope_tagged : IsTagged x
+  scope_tagged = record {
+    callbacks = sound.reaches.callbacks;
+    entries = entry_under;
+    flows = goes_under;
+    throws = λ m i k j a reached live is can to. flow_under (throws i k a is can to live) (handler_below m i k j to) (length_thrown a (row_at x m i) ∙ same_width m i j);
+    calls = followed;
+    no_escape = λ m i reached. unbroken_by m i is_escape (λ row. refl) (λ pc there broken. scope.unbroken 4 m pc (escape i (entered m reached) there broken));
+    no_wrong_call = λ m i reached. unbroken_by m i is_wrong_call (λ row. refl) (λ pc there broken. scope.unbroken 5 m pc (wrong_call i (entered m reached) there broken));
+    graph = λ m i reached invoked. scope.graph.rows m i;
+  }

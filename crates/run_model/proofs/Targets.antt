@@ -273,20 +273,19 @@ module _ (x : SubjectParts) (m i : ℕ) (by : By) (usage : LockUse) (arguments :
   receiver_type Direct named = (None, refl)
   receiver_type Static named = (None, refl)
 
-  somewhere : (array plain : Bool) (o : Option ℕ) (row : TargetParts) → row.callees ≡ [] → FitsTarget row (if array then GoesOutside else (if plain then found_target o else GoesOutside)) → row.outside ≡ true
-  somewhere true plain o row none fits = fits
-  somewhere false false o row none fits = fits
-  somewhere false true None row none fits = fits
-  somewhere false true (Some n) row none fits = absurd (let there : Contains [] (method_no n) = rw none at fits in omega (arith, there.1))
+  elsewhere : (array plain : Bool) (o : Option ℕ) (row : TargetParts) → plain ≡ false → FitsTarget row (if array then GoesOutside else (if plain then found_target o else GoesOutside)) → row.outside ≡ true
+  elsewhere true plain o row off fits = fits
+  elsewhere false false o row off fits = fits
+  elsewhere false true o row off fits = cc
 
-  -- a call that has no callee leads outside
-  pub none_outside : IsSoundApp x.app → (targets_at x.graph m i).callees ≡ [] → (targets_at x.graph m i).outside ≡ true
-  none_outside sound none = go (named_at x.app m i) refl
+  -- a lock call, and one that makes a lock, leads outside
+  pub foreign_outside : IsSoundApp x.app → is_plain usage ≡ false → (targets_at x.graph m i).outside ≡ true
+  foreign_outside sound foreign = go (named_at x.app m i) refl
     where
       go : (o : Option Named) → named_at x.app m i ≡ o → (targets_at x.graph m i).outside ≡ true
       go None there = absurd (false≢true (sym (ap is_some there) ∙ named_there x.app m i by usage arguments given sound is))
       go (Some named) there =
           let type = receiver_type by named in
-          somewhere (is_on_array x.app named) (is_plain usage) (found_for x.app m by named type.0) (targets_at x.graph m i) none
+          elsewhere (is_on_array x.app named) (is_plain usage) (found_for x.app m by named type.0) (targets_at x.graph m i) foreign
           (subst (λ (may : Bool). FitsTarget (targets_at x.graph m i) (if is_on_array x.app named then GoesOutside else (if not may then IsStuck else (if is_plain usage then found_target (found_for x.app m by named type.0) else GoesOutside)))) type.1
           (subst (λ (o : Option Named). FitsTarget (targets_at x.graph m i) (target_of x.app m by usage o type.0)) there (target_fits type.0)))

@@ -1,8 +1,8 @@
 -- Calls: lock calls, where another call leads, and what it answers or enters.
-use Rattle.std.specs.Prelude.{ℕ, zero, suc, Bool, true, false, not, ◌&&◌, ◌==◌, nat_le, if◌then◌else◌, List, [], ◌∷◌, length, Option, Some, None, slice_get}
+use Rattle.std.specs.Prelude.{ℕ, zero, suc, Bool, true, false, not, ◌&&◌, nat_le, if◌then◌else◌, List, [], ◌∷◌, length, Option, Some, None, slice_get}
 use Rattle.ns_base.specs.declared.rows.TypeNo.{TypeNo}
 use Rattle.dalvik.specs.declared.ins.Args.{Args}
-use Rattle.dalvik.specs.Calls.{args_len, arg_at, receiver_of, argument_of}
+use Rattle.dalvik.specs.Calls.{args_len, arg_at, argument_of}
 use Rattle.dalvik.specs.Registers.{args_of}
 use Rattle.app_model.specs.declared.rows.MethodRow.{MethodRow}
 use Rattle.app_model.specs.declared.rows.Named.{Named}
@@ -25,9 +25,13 @@ use Rattle.run_model.specs.Choices.{Choices, Single, Then, ForEach}
 use Rattle.run_model.specs.Heaps.{Value, Zero, Nonzero, Object, LockRef, held_value, is_lock, is_null, is_owned, lock_at, with_new, with_count, with_mode}
 use Rattle.run_model.specs.Frames.{Frame, State, answers_of, Here, with_heap, register, answers, throws_from, Stuck, Escape, Running, Over}
 
--- the receiver: a call without arguments has none
+-- the receiver: the first argument; a call without arguments has none
+abbrev pub first_in : Frame → List ℕ → Option Value
+first_in f [] = None
+first_in f (r ∷ rs) = register f r
+
 abbrev pub receiver_in : Frame → Args → Option Value
-receiver_in f arguments = if args_len arguments == 0 then None else register f (receiver_of arguments)
+receiver_in f arguments = first_in f (args_of arguments)
 
 abbrev pub is_lock_in : Option Value → Bool
 is_lock_in None = false

@@ -8,3 +8,4 @@ pub mod Tagged
 pub mod Relation
 pub mod Soundness
 pub mod Worked
+pub mod WorkedCalls

@@ -5,7 +5,7 @@ ghost use Rattle.app_model.specs.Masks.{is_held};
 ghost use Rattle.flow_model.specs.Policy.{MeetsPolicy};
 ghost use Rattle.flow_model.specs.Rules.{Inner, Rules};
 ghost use Rattle.flow_model.specs.Subject.{status_masks};
-ghost use Rattle.app_model.specs.Subject.{IsSubject, SubjectParts, callees_at, is_reached, slot_count};
+ghost use Rattle.app_model.specs.Subject.{IsSubject, SubjectParts, slot_count};
 ghost use Rattle.flow_model.specs.InScope.{IsInScope};
 ghost use Rattle.act_model.specs.Acts.{act_at};
 ghost use Rattle.act_model.specs.declared.act.Act.TheVariants.{Call};
@@ -25,19 +25,28 @@ ghost use Rattle.run_model.specs.Relation.{Each, IsHeap, IsIdle, IsInside, IsSou
 ghost use Rattle.run_model.specs.Soundness.{FitsTarget, HoldsLock, LeavesNoneHeld, StandsWell};
 ghost use Rattle.run_model.specs.Tagged.{IsTagged};
 ghost use Rattle.run_model.specs.Worked.{CallsSuper, ClearsOwned, CopyDown, CopyUp, DivisionByTwo, DivisionThrows, FirstSlowest, KeepsStatic, LeadsOutside, LeavesFree, LeavesHeld, LockEscapes, LosesLock, MakingThrows, MonitorOnNull, MonitorOnObject, NoReceiver, NoSuchStart, NonzeroBranches, NullReceiver, OutsideEnds, PicksOverride, ReceiverFirst, ReleaseThrows, RestsAlone, ServiceFirst, StartsCounted, StaticCall, StaticReturn, StoreToNull, StoreToObject, SwitchGoes, ThrowsThrough, WideRead, ZeroBranches};
+ghost use Rattle.run_model.specs.WorkedCalls.{CaughtAbove, EndsAmidHeld, FirstIsLost, FramesLeft, HeldOverCall, ReleasesOther, SecondHolds};
 
-/// Soundness: what a closed set of facts that meets the policy says of every run. The relation between the set and the
-/// state in which a run stands needs no policy.
+/// Soundness, for every subject in scope, lock field, closed set of facts and list of choices: at no policy exit is a lock
+/// of the field held, where the set meets the policy. The relation between the set and the state in which a run stands, of
+/// which it follows that no lock ever escapes, needs no policy.
 pub fn soundness()
+    ensures runs { (x : SubjectParts) (l : ℕ) (set : Set) → IsSubject x → IsInScope x → l < slot_count x → IsClosed (Rules x l) set → MeetsPolicy x l set → (choices : List ℕ) → StandsWell x l (run_of x choices) }
+    ensures counts { (x : SubjectParts) (l : ℕ) (set : Set) → IsSubject x → IsInScope x → l < slot_count x → IsClosed (Rules x l) set → MeetsPolicy x l set → (choices : List ℕ) → LeavesNoneHeld x l (run_of x choices) }
+    ensures relation { (x : SubjectParts) (l : ℕ) (set : Set) → IsSubject x → IsInScope x → IsClosed (Rules x l) set → (choices : List ℕ) → IsSound x l set (run_of x choices) }
+{}
+
+/// The same of each subject whose tags follow the code, in scope or not.
+pub fn tagged_soundness()
     ensures runs { (x : SubjectParts) (l : ℕ) (set : Set) → IsTagged x → l < slot_count x → IsClosed (Rules x l) set → MeetsPolicy x l set → (choices : List ℕ) → StandsWell x l (run_of x choices) }
     ensures counts { (x : SubjectParts) (l : ℕ) (set : Set) → IsTagged x → l < slot_count x → IsClosed (Rules x l) set → MeetsPolicy x l set → (choices : List ℕ) → LeavesNoneHeld x l (run_of x choices) }
     ensures relation { (x : SubjectParts) (l : ℕ) (set : Set) → IsTagged x → IsClosed (Rules x l) set → (choices : List ℕ) → IsSound x l set (run_of x choices) }
 {}
 
-/// What a subject in scope has of what soundness asks: its tags follow the code, no lock escapes, no call of a lock is
-/// wrong. What is left to ask is that no reached call has a method of the application as its callee.
+/// What a subject in scope has of what soundness asks: its tags follow the code into callees and back, no lock escapes,
+/// and no call of a lock is wrong.
 pub fn scope_law()
-    ensures tagged { (x : SubjectParts) → IsSubject x → IsInScope x → ((m i : ℕ) → is_reached x m ≡ true → callees_at x m i ≡ []) → IsTagged x }
+    ensures tagged { (x : SubjectParts) → IsSubject x → IsInScope x → IsTagged x }
 {}
 
 /// The part of it that needs the rules inside callbacks alone: the start of a callback, and each step inside it.
@@ -103,4 +112,15 @@ pub fn worked_runs()
     ensures counted { StartsCounted }
     ensures first_slowest { FirstSlowest }
     ensures no_such_start { NoSuchStart }
+{}
+
+/// The same of lifecycles that come round, of a throw and a lock over calls, and of components that share a lock field.
+pub fn worked_calls()
+    ensures second_object { SecondHolds }
+    ensures lost_object { FirstIsLost }
+    ensures frames_left { FramesLeft }
+    ensures caught { CaughtAbove }
+    ensures over_call { HeldOverCall }
+    ensures amid_held { EndsAmidHeld }
+    ensures other_released { ReleasesOther }
 {}

@@ -19,13 +19,14 @@ use Rattle.act_model.specs.Tags.{itself}
 use Rattle.flow_model.specs.Scope.{is_escape, is_wrong_call}
 use Rattle.flow_model.proofs.TestLaws.{none_some}
 use Rattle.flow_model.specs.TagFlow.{leads_on}
+use Rattle.app_model.specs.Targets.{method_no}
 use Rattle.run_model.specs.Tagged.{IsTagged, IsUnder}
 use Rattle.straight_code.specs.Body.{IsPlainBody}
 use Rattle.straight_code.specs.Path.{row_before, row_after, path_subject, receiver}
 use Rattle.straight_code.specs.Scope.{IsInScope}
 use Rattle.straight_code.specs.Verdict.{IsSmallApp}
 use Rattle.straight_code.proofs.OutsideCalls.{path_targets}
-use Rattle.straight_code.proofs.PathRows.{no_callees_at, row_is}
+use Rattle.straight_code.proofs.PathRows.{none_called, row_is}
 use Rattle.straight_code.proofs.Plain.{one_way, no_handler, returns_last, no_handler_past, no_act_past}
 
 under_itself : (row : List Tag) → IsUnder row row
@@ -92,7 +93,7 @@ module _ (app : AppParts) (small : IsSmallApp app) (plain : IsPlainBody app) (sc
   path_tagged = record {
     callbacks = λ c k m is. zero_reached m (the_callback c k m is);
     entries = λ c k m is. subst (λ n. IsUnder (row_before app n 0) (row_at x n 0)) (sym (the_callback c k m is)) begins;
-    flows = λ m i k j a e live there leads next. let z = reached_zero m e in
+    flows = λ m i k j a e live there leads plain next. let z = reached_zero m e in
         subst (λ n. IsUnder (after (site_at app n i) a (row_at x n i)) (row_at x n j)) (sym z)
         (flows_on i k j a (subst (λ n. act_at app n i ≡ Some a) z there) leads (subst (λ n. successor_at app n i k ≡ Some j) z next));
     throws = λ m i k j a e live there can handler. absurd (uncaught i k j (subst (λ n. handler_at app n i k ≡ Some j) (reached_zero m e) handler));
@@ -100,5 +101,5 @@ module _ (app : AppParts) (small : IsSmallApp app) (plain : IsPlainBody app) (sc
     no_wrong_call = λ m i e. subst (λ n. is_wrong_call (act_at app n i) (row_at x n i) ≡ false) (sym (reached_zero m e)) (safe_act i).1;
     graph = λ m i e is. let z = reached_zero m e in
         subst (λ n. targets_at x.graph n i ≡ targets_in x.app n i) (sym z) (path_targets app small plain i (subst (λ n. is_some (invoke_of (ins_at app n i)) ≡ true) z is));
-    alone = λ m i e. no_callees_at app m i;
+    calls = λ m i n e live callee. absurd (none_called app m i (method_no n) callee);
   }

@@ -12,7 +12,7 @@ use crate::path::{Walk, enter, step};
 use crate::views::reach;
 use app_model::App;
 use flow_model::{Violation, has_status, image};
-use run_model::soundness;
+use run_model::tagged_soundness;
 use std::alloc::{AllocError, Global};
 
 /// The statuses C1, C2, CT, U1 and L.
@@ -44,7 +44,7 @@ fn judge_plain(alloc: Global, app: &App) -> Result<Option<Vec<Violation>>, Alloc
             return Ok(None);
         }
     }
-    soundness();
+    tagged_soundness();
     Ok(Some(list_violations(alloc, held_at_end(&walk))?))
 }
 

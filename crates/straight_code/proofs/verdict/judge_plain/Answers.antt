@@ -56,4 +56,4 @@ returns-clause-sound c =
     let empty = sym listed ∙ some_same c.in_ok-list_violations.field-0.items [] none in
     safe app c.requires.small (record { plain = plain; scope = in_scope app c.requires.small plain each (search (rules, i.2, at_end)) })
     (ends_exact app c.requires.small plain c.loop-index.walk walk one c.held_at_end.result c.held_at_end.ensures)
-    (subst (λ (vs : List Violation). AreViolations (path_subject app) vs) empty found) c.soundness.ensures.runs c.soundness.ensures.counts
+    (subst (λ (vs : List Violation). AreViolations (path_subject app) vs) empty found) c.tagged_soundness.ensures.runs c.tagged_soundness.ensures.counts
