@@ -1,5 +1,5 @@
 -- Masks of all lock fields, and the list that is made of them.
-use Rattle.std.proofs.Common.{◌≡◌, ℕ, zero, suc, ◌+◌, ◌*◌, ◌<◌, ◌≤◌, Bool, true, false, List, [], ◌∷◌, ◌++◌, length, map, get_or, slice_get, Option, Some, None, Contains, refl, sym, ap, ◌∙◌, subst, inl, inr, ⊎_elim, arith, append-nil, length-append}
+use Rattle.std.proofs.Common.{◌≡◌, ℕ, ◌+◌, ◌*◌, ◌<◌, ◌≤◌, Bool, true, false, List, [], ◌∷◌, ◌++◌, length, map, get_or, slice_get, Option, Some, None, Contains, refl, sym, ap, ◌∙◌, subst, inl, inr, ⊎_elim, arith, append-nil, length-append}
 use Rattle.std.proofs.lemmas.Bool.{cases_lt, false≢true}
 use Rattle.std.proofs.lemmas.Option.{slice_get_within}
 use Rattle.std.proofs.lemmas.List.{get_or-map, get_or_append_left, length-map, map-append}
@@ -20,7 +20,7 @@ use Rattle.solution.specs.Facts.{Facts, holds}
 use Rattle.solution.specs.Words.{IsMask}
 use Rattle.solution.proofs.Bits.{mask_true}
 use Rattle.view_solver.specs.Judged.{Violates, one_if}
-use Rattle.view_solver.specs.Reported.{AreAllMasks, AreLockMasks, AreMasksTo, AreReported, report_number}
+use Rattle.view_solver.specs.Reported.{HasLeast, AreAllMasks, AreLockMasks, AreMasksTo, AreReported, report_number}
 use Rattle.view_solver.proofs.Judged.{same_violation, derived_violation, given_violation}
 
 -- ---- masks of one lock field
@@ -57,6 +57,7 @@ module _ (x : SubjectParts) (l : ℕ) (t : Facts) where
       there = λ s v. is.there s (given_violation x l (holds t) c k s least v);
       only = λ s m. derived_violation x l (holds t) c k s least (is.only s m);
     });
+    least = (holds t, least);
   }
 
 -- ---- masks of all of them
@@ -88,6 +89,9 @@ module _ (x : SubjectParts) where
   masks_there n l all d below are =
       let within : l < length all = omega (arith, below, are.len, length-map all (λ (masks : Vec ℕ Global). masks.items)) in
       subst (AreLockMasks x l) (get_or-map (λ (masks : Vec ℕ Global). masks.items) all l d [] within) (are.each l below)
+
+  pub all_least : (n : ℕ) (all : List (List ℕ)) → AreAllMasks x n all → (l : ℕ) → l < n → HasLeast x l
+  all_least n all are l below = (are.each l below).least
 
   -- ---- the list
   -- lock fields are below 64, callbacks and statuses below eight

@@ -1,7 +1,9 @@
 -- The violations of all lock fields, in the order of reports.
-use Rattle.std.specs.Prelude.{ℕ, ◌≡◌, ◌<◌, ◌≤◌, ◌+◌, ◌*◌, List, [], length, AllPairs, Contains, slice_index, slice_index_or}
-use Rattle.app_model.specs.Subject.{SubjectParts, slot_count}
-use Rattle.flow_model.specs.Policy.{ComesBefore, IsDerivableViolation}
+use Rattle.std.specs.Prelude.{ℕ, ◌≡◌, ◌<◌, ◌+◌, ◌*◌, List, [], length, AllPairs, Contains, slice_index, slice_index_or}
+use Rattle.app_model.specs.Subject.{SubjectParts}
+use Rattle.flow_model.specs.Derived.{IsLeast, Set}
+use Rattle.flow_model.specs.Policy.{ComesBefore, IsDerivableViolation, none_given}
+use Rattle.flow_model.specs.Rules.{Rules}
 use Rattle.flow_model.specs.declared.policy.Violation.{Violation}
 use Rattle.solution.specs.Facts.{Facts}
 use Rattle.solution.specs.Words.{IsMask}
@@ -13,10 +15,15 @@ pub record AreMasksTo (x : SubjectParts) (l : ℕ) (t : Facts) (n : ℕ) (masks 
   pub len : length masks ≡ n
   pub each : (c k : ℕ) → k < 8 → 8 * c + k < n → IsMask (Violates x l t c k) (slice_index masks (8 * c + k))
 
+-- the least solution of the rules for a lock field
+abbrev pub HasLeast : SubjectParts → ℕ → Type 0
+HasLeast x l = (set : Set) × IsLeast (Rules x l) none_given set
+
 -- of what the rules derive for it
 pub record AreLockMasks (x : SubjectParts) (l : ℕ) (masks : List ℕ) : Type 0 where
   pub len : length masks ≡ 8 * length x.list
   pub each : (c k : ℕ) → k < 8 → 8 * c + k < 8 * length x.list → IsMask (IsDerivableViolation x l c k) (slice_index masks (8 * c + k))
+  pub least : HasLeast x l
 
 -- of the first n lock fields
 pub record AreAllMasks (x : SubjectParts) (n : ℕ) (all : List (List ℕ)) : Type 0 where

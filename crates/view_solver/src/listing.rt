@@ -1,11 +1,11 @@
 //! The violations of all lock fields, in the order of reports. One lock field is solved at a time, and of its solution the
 //! statuses are kept at which callbacks end badly.
-ghost use Rattle.std.specs.Prelude.{◌≡◌, ◌<◌, ◌+◌, ◌*◌, IfOk, length, map};
+ghost use Rattle.std.specs.Prelude.{◌≡◌, ◌<◌, ℕ, ◌+◌, ◌*◌, IfOk, length, map};
 ghost use Rattle.app_model.specs.Subject.{slot_count};
 ghost use Rattle.flow_model.specs.Policy.{AreViolations, IsDerivableViolation};
 ghost use Rattle.solution.specs.Words.{IsMask};
 ghost use Rattle.solver.specs.Turns.{AreFacts};
-ghost use Rattle.view_solver.specs.Reported.{AreAllMasks, AreLockMasks, AreMasksTo, AreReported};
+ghost use Rattle.view_solver.specs.Reported.{HasLeast, AreAllMasks, AreLockMasks, AreMasksTo, AreReported};
 
 use crate::edges::component_count;
 use crate::judging::{bad_ends, push_if};
@@ -175,9 +175,10 @@ fn list_all(
 }
 
 /// The violations that the flow rules derive for a subject, of every lock field, in the order of reports: component,
-/// callback, lock, status.
+/// callback, lock, status. Then there is a least solution for each lock field.
 pub fn all_violations(alloc: Global, subject: &Subject) -> Result<Vec<Violation>, OutOfMemory>
-    ensures { IfOk result (λ found. AreViolations subject.now found.items) }
+    ensures exact { IfOk result (λ found. AreViolations subject.now found.items) }
+    ensures least { IfOk result (λ found. (l : ℕ) → l < slot_count subject.now → HasLeast subject.now l) }
 {
     subject.told();
     let Ok(all) = all_masks(alloc, subject) else {
