@@ -6,3 +6,4 @@ pub mod CodeFaults
 pub mod LinkFaults
 pub mod ListFaults
 pub mod Limits
+pub mod Refusals

@@ -15,9 +15,6 @@ usage_text =
 abbrev pub accept_text : List ℕ
 accept_text = line (codes "accept")
 
-abbrev pub not_built_text : List ℕ
-not_built_text = line (codes "bad dex 0 NotBuilt")
-
 abbrev pub hex_digit : ℕ → ℕ
 hex_digit n = if nat_lt n 10 then 48 + n else 87 + n
 

@@ -4,7 +4,7 @@
 //! - `heads` has the heads of the reports: `heads_text`.
 //! - `dex_faults`, `code_faults`, `link_faults` and `list_faults` have the refusals of files, whose numbers `numbers`
 //!   writes.
-//! - `limits` has the refusal of a count.
+//! - `limits` has the refusal of a count, `refusals` that of an application out of scope.
 #![tactic(auto)]
 
 mod code_faults;
@@ -14,16 +14,17 @@ mod limits;
 mod link_faults;
 mod list_faults;
 mod numbers;
+mod refusals;
 mod texts;
 
 pub use code_faults::bad_code;
 pub use dex_faults::bad_dex;
-pub use heads::{heads_text, push_member};
+pub use heads::heads_text;
 pub use limits::over_limit;
 pub use link_faults::bad_link;
 pub use list_faults::bad_list;
-pub use numbers::{push_decimal, push_numbers};
-pub use texts::{accept, cannot_read, not_built, usage};
+pub use refusals::refused;
+pub use texts::{accept, cannot_read, usage};
 
 #[cfg(test)]
 mod tests;

@@ -1,5 +1,7 @@
 //! Texts with bytes that are not shown as they are.
-use crate::cannot_read;
+use crate::{cannot_read, refused};
+use ns_base::MethodNo;
+use scope_check::ScopeFault;
 use std::test::Fail;
 
 #[test]
@@ -14,5 +16,22 @@ fn bytes_are_shown_by_two_digits(rt: HostRuntime) -> Result<(), Fail> {
         let text = cannot_read(rt.alloc(), name)?;
         assert_eq!(rt; text.as_slice(), want.as_bytes(), "{want}");
     }
+    Ok(())
+}
+
+#[test]
+fn a_refusal_names_rule_method_and_place(rt: HostRuntime) -> Result<(), Fail> {
+    let fault = ScopeFault::Rule {
+        rule: 4,
+        method: MethodNo(1),
+        pc: 5,
+        class_name: b"Lapp/R;".to_vec(rt.alloc())?,
+        method_name: b"on Receive".to_vec(rt.alloc())?,
+    };
+    let text = refused(rt.alloc(), &fault)?;
+    assert_eq!(rt;
+        text.as_slice(),
+        b"refused N4 Lapp/R;->on\\x20Receive 1 5\n".as_slice()
+    );
     Ok(())
 }

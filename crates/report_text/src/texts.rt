@@ -1,6 +1,6 @@
 //! The lines of all answers but reports, and names as they are shown.
 ghost use Rattle.std.specs.Prelude.{◌≡◌, ◌+◌, ◌++◌, ◌<◌, length, IfOk};
-ghost use Rattle.report_text.specs.Texts.{usage_text, accept_text, not_built_text, cannot_read_text, shown, shown_byte, is_plain, hex_digit};
+ghost use Rattle.report_text.specs.Texts.{usage_text, accept_text, cannot_read_text, shown, shown_byte, is_plain, hex_digit};
 
 use std::alloc::{AllocError, Global};
 
@@ -21,13 +21,6 @@ pub fn accept(alloc: Global) -> Result<Vec<u8>, AllocError>
     ensures { IfOk result (λ text. text.items ≡ accept_text) }
 {
     b"accept\n".to_vec(alloc)
-}
-
-/// The application is not one that can be judged.
-pub fn not_built(alloc: Global) -> Result<Vec<u8>, AllocError>
-    ensures { IfOk result (λ text. text.items ≡ not_built_text) }
-{
-    b"bad dex 0 NotBuilt\n".to_vec(alloc)
 }
 
 /// A file could not be read.

@@ -1,19 +1,14 @@
 //! The refusal of an application that is out of scope.
-#![tactic(auto)]
-
 ghost use Rattle.std.specs.Prelude.{◌≡◌, ◌++◌, IfOk};
-ghost use Rattle.scope_text.specs.Refusals as spec;
+ghost use Rattle.report_text.specs.Refusals.{refused_text};
 
-use ns_base::OutOfMemory;
-use report_text::{push_decimal, push_member, push_numbers};
+use crate::heads::push_member;
+use crate::numbers::{push_decimal, push_numbers};
 use scope_check::ScopeFault;
 use std::alloc::{AllocError, Global};
 
-#[cfg(test)]
-mod tests;
-
 fn push_refusal(alloc: Global, text: &mut Vec<u8>, fault: &ScopeFault) -> Result<(), AllocError>
-    ensures { IfOk result (λ _. text.new.items ≡ text.old.items ++ spec.refusal_text fault.now) }
+    ensures { IfOk result (λ _. text.new.items ≡ text.old.items ++ refused_text fault.now) }
 {
     match fault {
         ScopeFault::Rule {
@@ -37,12 +32,10 @@ fn push_refusal(alloc: Global, text: &mut Vec<u8>, fault: &ScopeFault) -> Result
 
 /// The rule that is broken, and where: `refused N4 CLASS->METHOD NUMBER PC`, names shown. Want of memory is no refusal, and
 /// has no text.
-pub fn refusal_text(alloc: Global, fault: &ScopeFault) -> Result<Vec<u8>, OutOfMemory>
-    ensures { IfOk result (λ text. text.items ≡ spec.refusal_text fault.now) }
+pub fn refused(alloc: Global, fault: &ScopeFault) -> Result<Vec<u8>, AllocError>
+    ensures { IfOk result (λ text. text.items ≡ refused_text fault.now) }
 {
     let mut text = Vec::new(alloc);
-    match push_refusal(alloc, &mut text, fault) {
-        Ok(()) => Ok(text),
-        Err(AllocError) => Err(OutOfMemory),
-    }
+    push_refusal(alloc, &mut text, fault)?;
+    Ok(text)
 }

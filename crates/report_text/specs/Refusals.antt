@@ -7,7 +7,7 @@ use Rattle.report_text.specs.Numbers.{numbers_text}
 use Rattle.report_text.specs.Texts.{line}
 
 -- the rule, class and name of the method, its number and the pc; nothing where there is no rule
-abbrev pub refusal_text : ScopeFault → List ℕ
-refusal_text (Rule rule method pc class name) =
+abbrev pub refused_text : ScopeFault → List ℕ
+refused_text (Rule rule method pc class name) =
     line (codes "refused N" ++ decimal rule ++ codes " " ++ member_text class.items name.items ++ numbers_text (method.0 ∷ pc ∷ []))
-refusal_text Memory = []
+refused_text Memory = []
