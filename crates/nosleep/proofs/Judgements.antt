@@ -1,22 +1,20 @@
 -- From what the steps give to the answer, and from the answer to why it comes.
-use Rattle.std.proofs.Common.{◌≡◌, ◌==◌, ◌&&◌, ℕ, ◌<◌, Bool, true, false, List, [], ◌∷◌, length, Option, Some, None, Result, Ok, Err, IfOk, ◌⊎◌, inl, inr, refl, ◌∙◌, ap, sym, subst, arith, slice_get, get_or}
+use Rattle.std.proofs.Common.{◌≡◌, ℕ, ◌≤◌, ◌<◌, Bool, true, false, List, [], ◌∷◌, length, Option, Some, None, Result, Ok, Err, IfOk, ◌⊎◌, inl, inr, refl, ◌∙◌, ap, sym, subst, arith, slice_get, get_or}
 use Rattle.std.proofs.lemmas.Bool.{false≢true}
 use Rattle.std.proofs.lemmas.Option.{slice_get-get_or, slice_get_within}
 use Rattle.ns_base.specs.Answers.{limit_of}
 use Rattle.ns_base.specs.Steps.{Unless}
 use Rattle.ns_base.specs.declared.answers.Counted.{Counted}
-use Rattle.ns_base.specs.declared.answers.Counted.TheVariants.{Files}
+use Rattle.ns_base.specs.declared.answers.Counted.TheVariants.{Files, TagCells, Targets}
 use Rattle.ns_base.specs.declared.answers.Exit.{Exit}
 use Rattle.ns_base.specs.declared.answers.Exit.TheVariants as exits
 use Rattle.ns_base.specs.Outside.{Rose}
-use Rattle.app_model.specs.Components.{BelongsTo, ComponentParts}
-use Rattle.app_model.specs.Parts.{AppParts, ClassParts}
-use Rattle.app_model.specs.Slots.{class_text, text_of_class}
-use Rattle.app_model.specs.Names.{type_text}
-use Rattle.app_model.specs.Sound.{IsSoundApp}
-use Rattle.app_model.specs.Subject.{SubjectParts}
-use Rattle.app_model.specs.declared.component.Kind.{Kind}
-use Rattle.app_model.specs.declared.component.Kind.TheVariants as kinds
+use Rattle.app_model.specs.CallGraph.{GraphParts}
+use Rattle.app_model.specs.Components.{ComponentParts}
+use Rattle.app_model.specs.Parts.{AppParts}
+use Rattle.app_model.specs.Subject.{SubjectParts, slot_count}
+use Rattle.app_model.specs.TagTable.{TagParts}
+use Rattle.app_model.specs.Targets.{IsCallGraph, entry_count}
 use Rattle.app_link.specs.declared.link_fault.LinkFault.{LinkFault}
 use Rattle.app_link.specs.declared.link_fault.LinkFault.TheVariants as link
 use Rattle.app_link.specs.Linking.{IsLinked}
@@ -30,46 +28,72 @@ use Rattle.dex_file.specs.Exact.{IsFault}
 use Rattle.dex_file.specs.declared.fault.FileFault.{FileFault}
 use Rattle.dex_file.specs.declared.fault.FileFault.TheVariants.{Dex, Code, Memory}
 use Rattle.flow_model.specs.declared.policy.Violation.{Violation}
-use Rattle.flow_model.specs.Policy.{AreViolations}
-use Rattle.flow_model.proofs.TestLaws.{both, same_number}
+use Rattle.flow_model.specs.Breaks.{Breaks, Candidate}
+use Rattle.flow_model.specs.Derived.{IsClosed, Set}
+use Rattle.flow_model.specs.InScope.{IsInScope, candidate_of}
+use Rattle.flow_model.specs.Policy.{AreViolations, MeetsPolicy, none_given}
+use Rattle.flow_model.specs.Rules.{Rules}
+use Rattle.flow_model.specs.TagFlow.{IsTagTableOf}
 use Rattle.report_text.specs.Heads.{heads_text}
-use Rattle.straight_code.specs.Path.{path_subject}
-use Rattle.straight_code.specs.Receiver.{is_receiver}
-use Rattle.straight_code.specs.Verdict.{IsSafe}
-use Rattle.straight_code.proofs.Bound.{bound_receiver}
+use Rattle.run_model.specs.Machine.{run_of}
+use Rattle.run_model.specs.Soundness.{LeavesNoneHeld, StandsWell}
+use Rattle.scope_check.specs.Causes.{IsCause}
+use Rattle.scope_check.specs.declared.scoping.ScopeFault.{ScopeFault}
+use Rattle.scope_check.specs.declared.scoping.ScopeFault.TheVariants as scopes
+use Rattle.call_targets.specs.Answers as targets
+use Rattle.call_targets.specs.declared.fault.TargetFault.{TargetFault}
+use Rattle.call_targets.specs.declared.fault.TargetFault.TheVariants as target
+use Rattle.tag_flow.specs.Answers as tags
+use Rattle.tag_flow.specs.Answers.{HasCells}
+use Rattle.tag_flow.specs.declared.fault.TagFault.{TagFault}
+use Rattle.tag_flow.specs.declared.fault.TagFault.TheVariants as tag
+use Rattle.view_solver.specs.Reported.{HasLeast}
+use Rattle.view_solver.proofs.Closed.{least_closed}
+use Rattle.view_solver.proofs.Judged.{derived_violation}
+use Rattle.one_scope.proofs.Graphs.{same_cells, same_targets}
+use Rattle.one_scope.proofs.Breaks.{same_breaks}
 use Rattle.nosleep.specs.declared.refusing.Answer.{Answer}
 use Rattle.nosleep.specs.Answer.{AreJudged, AreTold, BytesComeTo, AreTakenTo, IsAnswer, IsOutcome, usage, many_files, unread, too_long, read, starved}
-use Rattle.nosleep.specs.Files.{ComesTo, IsApplication, bad_list, bad_file, bad_link, unbound, not_built, judged, named_by}
-use Rattle.nosleep.specs.Judged.{IsJudged, IsJudgement, is_one_receiver, is_receiver_kind, is_receiver_row}
-use Rattle.nosleep.specs.Outcome.{HasOutcome, IsTold}
-use Rattle.nosleep.specs.Refusals.{IsRefused, IsRefusedAs, InFile, InLink, InList, Refusal, refusal_limit, refusal_text}
+use Rattle.nosleep.specs.Files.{ComesTo, IsApplication, IsWithinLimits, bad_list, bad_file, bad_link, unbound, many_targets, many_cells, out_of_scope, judged, named_by}
+use Rattle.nosleep.specs.Judged.{IsJudgement, IsSafe}
+use Rattle.nosleep.specs.Outcome.{HasOutcome, IsTold, IsTooMany, counted_tag, counted_target}
+use Rattle.nosleep.specs.Refusals.{Exceeds, IsOver, IsRefused, IsRefusedAs, InFile, InLink, InList, OutOfScope, Refusal, refusal_exit, refusal_limit, refusal_text}
 use Rattle.nosleep.specs.Reading.{WhereTold}
 use Rattle.nosleep.specs.Words.{FileName, Form, Receiver, Verify, dex_names, files_of, form_of}
 use Rattle.nosleep.proofs.ReadLaws.{contents_once, has_content}
 use Rattle.nosleep.proofs.Taking.{told_taken}
 
--- ---- from the violations of an application to the answer
-told_by : (app : AppParts) (list : List ComponentParts) (violations : List Violation) (text : List ℕ) (exit : Exit) → AreViolations (path_subject app) violations
-    → (violations ≡ [] → IsSafe (path_subject app)) → IsTold app list violations text exit → (path_subject app).list ≡ list → IsJudgement (path_subject app) text exit
-told_by app list violations text exits.Accept are safe t same = (t.0, (subst (λ (vs : List Violation). AreViolations (path_subject app) vs) t.1 are, safe t.1))
-told_by app list violations text exits.Reports are safe t same = (violations, are, t.0, t.1 ∙ ap (λ (l : List ComponentParts). heads_text app l violations) (sym same))
-told_by app list violations text exits.Bad are safe t same = t
-told_by app list violations text exits.Scope are safe t same = t
-told_by app list violations text exits.Usage are safe t same = t
-told_by app list violations text exits.ReadFault are safe t same = t
-told_by app list violations text exits.WriteFault are safe t same = t
-told_by app list violations text exits.WatcherFault are safe t same = t
-told_by app list violations text exits.Limit are safe t same = t
-told_by app list violations text exits.Memory are safe t same = t
-told_by app list violations text exits.Broken are safe t same = t
-told_by app list violations text exits.Partly are safe t same = t
+-- ---- from the violations of a subject to the answer
+told_by : (x : SubjectParts) (violations : List Violation) (text : List ℕ) (exit : Exit) → AreViolations x violations → (violations ≡ [] → IsSafe x) → IsTold x.app x.list violations text exit → IsJudgement x text exit
+told_by x violations text exits.Accept are safe t = (t.0, (subst (λ (vs : List Violation). AreViolations x vs) t.1 are, safe t.1))
+told_by x violations text exits.Reports are safe t = (violations, are, t.0, t.1)
+told_by x violations text exits.Bad are safe t = t
+told_by x violations text exits.Scope are safe t = t
+told_by x violations text exits.Usage are safe t = t
+told_by x violations text exits.ReadFault are safe t = t
+told_by x violations text exits.WriteFault are safe t = t
+told_by x violations text exits.WatcherFault are safe t = t
+told_by x violations text exits.Limit are safe t = t
+told_by x violations text exits.Memory are safe t = t
+told_by x violations text exits.Broken are safe t = t
+told_by x violations text exits.Partly are safe t = t
 
-pub told_answer : {E : Type 0} (app : AppParts) (list : List ComponentParts) (violations : List Violation) (r : Result Answer E) → AreViolations (path_subject app) violations
-    → (Some violations ≡ Some [] → IsSafe (path_subject app)) → IfOk r (λ a. IsTold app list violations a.text.items a.exit) → (path_subject app).list ≡ list
-    → IfOk r (λ a. IsJudgement (path_subject app) a.text.items a.exit)
-told_answer app list violations (Ok a) are safe t same =
-    told_by app list violations a.text.items a.exit are (λ none. safe (ap (λ (vs : List Violation). Some vs) none)) t same
-told_answer app list violations (Err e) are safe t same = tt
+pub told_answer : {E : Type 0} (x : SubjectParts) (violations : List Violation) (r : Result Answer E) → AreViolations x violations → (violations ≡ [] → IsSafe x) → IfOk r (λ a. IsTold x.app x.list violations a.text.items a.exit)
+    → IfOk r (λ a. IsJudgement x a.text.items a.exit)
+told_answer x violations (Ok a) are safe t = told_by x violations a.text.items a.exit are safe t
+told_answer x violations (Err e) are safe t = tt
+
+-- no derived violation: the least solution of each lock field meets the policy, so that every run is safe
+pub all_safe : (x : SubjectParts) (violations : List Violation) → AreViolations x violations → ((l : ℕ) → l < slot_count x → HasLeast x l)
+    → ((l : ℕ) (set : Set) → l < slot_count x → IsClosed (Rules x l) set → MeetsPolicy x l set → (choices : List ℕ) → StandsWell x l (run_of x choices))
+    → ((l : ℕ) (set : Set) → l < slot_count x → IsClosed (Rules x l) set → MeetsPolicy x l set → (choices : List ℕ) → LeavesNoneHeld x l (run_of x choices)) → violations ≡ [] → IsSafe x
+all_safe x violations are least stands leaves none l below choices =
+    let set = (least l below).0 in
+    let is = (least l below).1 in
+    let closed = least_closed (Rules x l) none_given set is in
+    let empty : AreViolations x [] = subst (λ (vs : List Violation). AreViolations x vs) none are in
+    let meets : MeetsPolicy x l set = λ c k s v. (let found = (empty.exact (record { component = c; callback = k; lock = l; status = s })).1 (derived_violation x l set c k s is v) in omega (arith, found.1)) in
+    (stands l set below closed meets choices, leaves l set below closed meets choices)
 
 -- ---- from the steps to what the files come to
 -- a fault that is owed unless it is want of memory
@@ -90,49 +114,60 @@ module _ {E : Type 0} (listed : Result (List ListedParts) ListFault) (files : Li
   list_outcome wanted fault (Ok a) exact comes is = (Err (InList fault), comes (owed (lists.is_memory fault) (wanted ≡ Err fault) is.0 exact), is)
   list_outcome wanted fault (Err e) exact comes is = tt
 
--- what the code asks of a row
-pub receiver_row : (app : AppParts) (row : ComponentParts) (class : ClassParts) (name : List ℕ) (result : Bool) → row.kind ≡ kinds.Receiver → row.exits ≡ 1
-    → slice_get app.classes row.class.0 ≡ Some class → name ≡ type_text app class.name.0 → result ≡ is_receiver app name → result ≡ is_receiver_row row app
-unfolding class_text
-receiver_row app row class name result kind exits there text is =
-    let named : class_text app row.class.0 ≡ type_text app class.name.0 = ap (λ (o : Option ClassParts). text_of_class app o) there in
-    let whole : is_receiver_row row app ≡ is_receiver app (class_text app row.class.0) = rw (kind, exits) refl in
-    is ∙ ap (λ (n : List ℕ). is_receiver app n) (text ∙ sym named) ∙ sym whole
+-- ---- what is found of the code is too much, or breaks a rule of scope
+module _ {E : Type 0} (files : List (List ℕ)) (rows : List ListedParts) (app : AppParts) (list : List ComponentParts) (is : IsApplication files app) (bound : bound_of app rows ≡ Ok list) where
+  pub targets_answer : (fault : TargetFault) (r : Result Answer E) → targets.IsCause app fault → IfOk r (λ a. IsTooMany (counted_target fault) a.text.items a.exit) → IfOk r (λ a. HasOutcome (Ok rows) files a.text.items a.exit)
+  targets_answer (target.Limit which) (Ok a) cause told = (Err (Exceeds Targets), many_targets rows app list refl is bound cause.1, (refl, subst (λ (c : Counted). IsOver c a.text.items a.exit) cause.0 told))
+  targets_answer target.Memory (Ok a) cause told = absurd told
+  targets_answer fault (Err e) cause told = tt
 
--- the subject that is judged has the list that is bound
-receiver_kind : (kind : Kind) → is_receiver_kind kind ≡ true → kind ≡ kinds.Receiver
-receiver_kind kinds.Receiver e = refl
-receiver_kind kinds.Activity e = absurd (false≢true e)
-receiver_kind kinds.Service e = absurd (false≢true e)
-receiver_kind kinds.Runnable e = absurd (false≢true e)
+  pub tags_answer : (graph : GraphParts) (fault : TagFault) (r : Result Answer E) → entry_count app ≤ limit_of Targets → IsCallGraph app graph → tags.IsCause app graph list fault → IfOk r (λ a. IsTooMany (counted_tag fault) a.text.items a.exit)
+      → IfOk r (λ a. HasOutcome (Ok rows) files a.text.items a.exit)
+  tags_answer graph (tag.Limit which) (Ok a) few is_graph cause told =
+      (Err (Exceeds TagCells), many_cells rows app graph list cause.1.0 refl is bound few is_graph cause.1.1 cause.1.2, (refl, subst (λ (c : Counted). IsOver c a.text.items a.exit) cause.0 told))
+  tags_answer graph tag.Memory (Ok a) few is_graph cause told = absurd told
+  tags_answer graph fault (Err e) few is_graph cause told = tt
 
-pub same_list : (app : AppParts) (list : List ComponentParts) → IsSoundApp app → BelongsTo app list → is_one_receiver list app ≡ true → (path_subject app).list ≡ list
-same_list app [] sound belongs is = absurd (false≢true is)
-same_list app (row ∷ []) sound belongs is =
-    let kind = both (is_receiver_kind row.kind) (row.exits == 1 && is_receiver app (class_text app row.class.0)) is in
-    let exits = both (row.exits == 1) (is_receiver app (class_text app row.class.0)) kind.1 in
-    let same = bound_receiver app sound (class_text app row.class.0) exits.1 row (receiver_kind row.kind kind.0) (same_number row.exits 1 exits.0) (belongs.each 0 row (omega arith)) in
-    ap (λ (r : ComponentParts). r ∷ []) (sym same)
-same_list app (row ∷ other ∷ rows) sound belongs is = absurd (false≢true is)
+  module _ (graph : GraphParts) (table : TagParts) (within : IsWithinLimits app graph list) where
+    abbrev found : Candidate
+    found = record { app = app; graph = graph; list = list; tags = table }
+
+    pub scope_answer : (fault : ScopeFault) (r : Result Answer E) → IsTagTableOf app graph list table → IsCause found fault → IfOk r (λ a. IsRefused (OutOfScope fault) a.text.items a.exit) → IfOk r (λ a. HasOutcome (Ok rows) files a.text.items a.exit)
+    scope_answer fault r is_table cause told = has_outcome (Ok rows) files (Err (OutOfScope fault)) r (out_of_scope rows found fault refl is bound within is_table cause) told
+
+    pub judged_answer : (x : SubjectParts) (r : Result Answer E) → candidate_of x ≡ found → IsInScope x → IfOk r (λ a. IsJudgement x a.text.items a.exit) → IfOk r (λ a. HasOutcome (Ok rows) files a.text.items a.exit)
+    judged_answer x r same scope told =
+        has_outcome (Ok rows) files (Ok x) r
+        (judged rows x refl (subst (λ (c : Candidate). IsApplication files c.app) (sym same) is) (subst (λ (c : Candidate). bound_of c.app rows ≡ Ok c.list) (sym same) bound)
+        (subst (λ (c : Candidate). IsWithinLimits c.app c.graph c.list) (sym same) within) scope) told
 
 -- ---- a refusal is neither an acceptance nor want of memory
 abbrev pub AsRefused : Exit → Type 0
-AsRefused exit = (exit ≡ exits.Bad) ⊎ (exit ≡ exits.Limit)
+AsRefused exit = (exit ≡ exits.Bad) ⊎ ((exit ≡ exits.Limit) ⊎ (exit ≡ exits.Scope))
 
-refused_by : (limit : Option Counted) (wanted text : List ℕ) (exit : Exit) → IsRefusedAs limit wanted text exit → AsRefused exit
-refused_by None wanted text exit is = inl is.0
-refused_by (Some which) wanted text exit is = inr is.0
+refused_with : (refusal : Refusal) → AsRefused (refusal_exit refusal)
+refused_with (InList fault) = inl refl
+refused_with (InFile number fault) = inl refl
+refused_with (InLink name fault) = inl refl
+refused_with (Exceeds which) = inr (inl refl)
+refused_with (OutOfScope fault) = inr (inr refl)
+
+refused_by : (limit : Option Counted) (by : Exit) (wanted text : List ℕ) (exit : Exit) → AsRefused by → IsRefusedAs limit by wanted text exit → AsRefused exit
+refused_by None by wanted text exit as is = subst AsRefused (sym is.0) as
+refused_by (Some which) by wanted text exit as is = inr (inl is.0)
 
 refused_exit : (refusal : Refusal) (text : List ℕ) (exit : Exit) → IsRefused refusal text exit → AsRefused exit
-refused_exit refusal text exit is = refused_by (refusal_limit refusal) (refusal_text refusal) text exit is.1
+refused_exit refusal text exit is = refused_by (refusal_limit refusal) (refusal_exit refusal) (refusal_text refusal) text exit (refused_with refusal) is.1
 
 not_accepted : AsRefused exits.Accept → ⊥
 not_accepted (inl e) = cc
-not_accepted (inr e) = cc
+not_accepted (inr (inl e)) = cc
+not_accepted (inr (inr e)) = cc
 
 not_memory : AsRefused exits.Memory → ⊥
 not_memory (inl e) = cc
-not_memory (inr e) = cc
+not_memory (inr (inl e)) = cc
+not_memory (inr (inr e)) = cc
 
 pub outcome_told : (r : Result SubjectParts Refusal) (text : List ℕ) (exit : Exit) → IsOutcome r text exit → exit ≡ exits.Memory → ⊥
 outcome_told (Ok x) text exit is e = subst (λ (k : Exit). IsJudgement x text k) e is
@@ -189,13 +224,40 @@ same_app files app other p q =
       by_case (inl e) = cc
       by_case (inr e) = cc
 
-module _ (listed : Result (List ListedParts) ListFault) (files : List (List ℕ)) (rows : List ListedParts) (app : AppParts) (list : List ComponentParts)
-    (l : listed ≡ Ok rows) (is : IsApplication files app) (bound : bound_of app rows ≡ Ok list) (j : IsJudged list app) where
+module _ (listed : Result (List ListedParts) ListFault) (files : List (List ℕ)) (rows : List ListedParts) (x : SubjectParts)
+    (l : listed ≡ Ok rows) (is : IsApplication files x.app) (bound : bound_of x.app rows ≡ Ok x.list) (within : IsWithinLimits x.app x.graph x.list) (scope : IsInScope x) where
   bound_here : (others : List ListedParts) (other : AppParts) (r : Result (List ComponentParts) ListFault) → listed ≡ Ok others → IsApplication files other → bound_of other others ≡ r
-      → (other ≡ app) × (bound_of app rows ≡ r)
+      → (other ≡ x.app) × (bound_of x.app rows ≡ r)
   bound_here others other r e at b =
-      let one = same_app files app other is at in let two = same_ok others rows listed e l in
+      let one = same_app files x.app other is at in let two = same_ok others rows listed e l in
       (one, ap (λ (a : AppParts). bound_of a rows) (sym one) ∙ ap (λ (o : List ListedParts). bound_of other o) (sym two) ∙ b)
+
+  -- the same components
+  list_here : (others : List ListedParts) (other : AppParts) (list : List ComponentParts) → listed ≡ Ok others → IsApplication files other → bound_of other others ≡ Ok list → (other ≡ x.app) × (list ≡ x.list)
+  list_here others other list e at b = let here = bound_here others other (Ok list) e at b in (here.0, same_ok list x.list (bound_of x.app rows) here.1 bound)
+
+  -- no limit is exceeded, and no rule of scope broken, by whatever graph and table
+  few_targets : (other : AppParts) → other ≡ x.app → limit_of Targets < entry_count other → ⊥
+  few_targets other same many = let here : limit_of Targets < entry_count x.app = subst (λ (a : AppParts). limit_of Targets < entry_count a) same many in omega (arith, here, within.targets)
+
+  few_cells : (other : AppParts) (graph : GraphParts) (list : List ComponentParts) (n : ℕ) → other ≡ x.app → list ≡ x.list → IsCallGraph other graph → HasCells other graph list n → limit_of TagCells < n → ⊥
+  few_cells other graph list n same_app same_list is_graph cells many =
+      let graph_here = subst (λ (a : AppParts). IsCallGraph a graph) same_app is_graph in
+      let cells_here = subst (λ (a : AppParts). HasCells a graph x.list n) same_app (subst (λ (c : List ComponentParts). HasCells other graph c n) same_list cells) in
+      let own = within.cells.1 in
+      let total = same_cells x.graph graph (same_targets x.app x.graph graph within.graph graph_here) x.app x.list own.reached cells_here.reached own.reaches cells_here.reaches in
+      omega (arith, many, within.cells.2, own.count, cells_here.count, total)
+
+  no_break : (found : Candidate) (fault : ScopeFault) (text : List ℕ) (exit : Exit) → found.app ≡ x.app → found.list ≡ x.list → IsWithinLimits found.app found.graph found.list → IsTagTableOf found.app found.graph found.list found.tags
+      → IsCause found fault → IsRefused (OutOfScope fault) text exit → ⊥
+  no_break found scopes.Memory text exit same_app same_list fits table cause r = false≢true (sym r.0)
+  no_break found (scopes.Rule rule method pc class name) text exit same_app same_list fits table cause r =
+      let graph_here = subst (λ (a : AppParts). IsCallGraph a found.graph) same_app fits.graph in
+      let table_here = subst (λ (a : AppParts). IsTagTableOf a found.graph x.list found.tags) same_app (subst (λ (c : List ComponentParts). IsTagTableOf found.app found.graph c found.tags) same_list table) in
+      let broken = cause.first.broken in
+      let same : found ≡ record { app = x.app; graph = found.graph; list = x.list; tags = found.tags } = rw (same_app, same_list) refl in
+      scope.unbroken rule method.0 pc
+      (same_breaks x.app x.list found.graph x.graph found.tags x.tags graph_here scope.graph table_here scope.tags (subst (λ (c : Candidate). Breaks c rule method.0 pc) same broken))
 
   judged_outcome : (r : Result SubjectParts Refusal) (text : List ℕ) (exit : Exit) → ComesTo listed files r → IsOutcome r text exit → AsJudged exit
   judged_outcome _ text exit (bad_list fault e) o = absurd (not_both rows fault listed l e)
@@ -204,21 +266,25 @@ module _ (listed : Result (List ListedParts) ListFault) (files : List (List ℕ)
       absurd (no_fault c.0 fault _ i text exit c.1 fails.fails o)
   judged_outcome _ text exit (bad_link others contents fault e are linked) o =
       let same = contents_once files contents is.contents are is.read in
-      absurd (no_link_fault is.contents app (named_by contents fault) fault text exit is.linked (subst (λ (c : List FileContent). IsLinked c (Err fault)) same linked) o)
-  judged_outcome _ text exit (unbound others other fault e at b) o = absurd (not_both list fault _ bound (bound_here others other _ e at b).1)
-  judged_outcome _ text exit (not_built others other components e at b none) o =
-      let here = bound_here others other _ e at b in let same = same_ok components list _ here.1 bound in
-      absurd (none (subst (λ (a : AppParts). IsJudged components a) (sym here.0) (subst (λ (c : List ComponentParts). IsJudged c app) (sym same) j)))
-  judged_outcome _ text exit (judged others other components e at b yes_judged own_list) o = judgement_exit (path_subject other) text exit o
+      absurd (no_link_fault is.contents x.app (named_by contents fault) fault text exit is.linked (subst (λ (c : List FileContent). IsLinked c (Err fault)) same linked) o)
+  judged_outcome _ text exit (unbound others other fault e at b) o = absurd (not_both x.list fault _ bound (bound_here others other _ e at b).1)
+  judged_outcome _ text exit (many_targets others other list e at b many) o = absurd (few_targets other (bound_here others other _ e at b).0 many)
+  judged_outcome _ text exit (many_cells others other graph list n e at b few is_graph cells many) o =
+      let here = list_here others other list e at b in absurd (few_cells other graph list n here.0 here.1 is_graph cells many)
+  judged_outcome _ text exit (out_of_scope others found fault e at b fits table cause) o =
+      let here = list_here others found.app found.list e at b in absurd (no_break found fault text exit here.0 here.1 fits table cause o)
+  judged_outcome _ text exit (judged others other e at b fits in_scope) o = judgement_exit other text exit o
 
 module _ (listed : Result (List ListedParts) ListFault) (files : List (List ℕ)) where
   outcome_of_judged : (s r : Result SubjectParts Refusal) (x : SubjectParts) (text : List ℕ) (exit : Exit) → s ≡ Ok x → ComesTo listed files s → ComesTo listed files r → IsOutcome r text exit → AsJudged exit
-  outcome_of_judged _ r x text exit same (judged rows app list l is b j own_list) c o = judged_outcome listed files rows app list l is b j r text exit c o
+  outcome_of_judged _ r x text exit same (judged rows y l is b within scope) c o = judged_outcome listed files rows y l is b within scope r text exit c o
   outcome_of_judged _ r x text exit same (bad_list fault e) c o = absurd (not_both x _ _ same refl)
   outcome_of_judged _ r x text exit same (bad_file rows i fault e fails) c o = absurd (not_both x _ _ same refl)
   outcome_of_judged _ r x text exit same (bad_link rows contents fault e are linked) c o = absurd (not_both x _ _ same refl)
   outcome_of_judged _ r x text exit same (unbound rows app fault e at b) c o = absurd (not_both x _ _ same refl)
-  outcome_of_judged _ r x text exit same (not_built rows app list e at b none) c o = absurd (not_both x _ _ same refl)
+  outcome_of_judged _ r x text exit same (many_targets rows app list e at b many) c o = absurd (not_both x _ _ same refl)
+  outcome_of_judged _ r x text exit same (many_cells rows app graph list n e at b few is_graph cells many) c o = absurd (not_both x _ _ same refl)
+  outcome_of_judged _ r x text exit same (out_of_scope rows found fault e at b fits table cause) c o = absurd (not_both x _ _ same refl)
 
 form_outcome : (form : Form) (all : List (List ℕ)) (r : Result SubjectParts Refusal) (x : SubjectParts) (text : List ℕ) (exit : Exit) → BytesComeTo form all (Ok x) → BytesComeTo form all r → IsOutcome r text exit → AsJudged exit
 form_outcome (Receiver dex class) files r x text exit p c o = outcome_of_judged _ files (Ok x) r x text exit refl p c o

@@ -1,13 +1,15 @@
 -- What a component list and DEX files come to: a subject that is judged, or the first refusal.
-use Rattle.std.specs.Prelude.{ℕ, ◌≡◌, ◌≤◌, vec_len, List, [], length, Option, Some, None, Result, Ok, Err, slice_get}
+use Rattle.std.specs.Prelude.{ℕ, ◌≡◌, ◌≤◌, ◌<◌, vec_len, List, [], length, Option, Some, None, Result, Ok, Err, slice_get}
 use Rattle.std.specs.List.{All}
 use Rattle.std.specs.declared.alloc.Global.{Global}
 use Rattle.std.specs.declared.vec.Vec.{Vec}
 use Rattle.ns_base.specs.Answers.{limit_of}
-use Rattle.ns_base.specs.declared.answers.Counted.TheVariants.{FileBytes}
+use Rattle.ns_base.specs.declared.answers.Counted.TheVariants.{FileBytes, TagCells, Targets}
+use Rattle.app_model.specs.CallGraph.{GraphParts}
 use Rattle.app_model.specs.Components.{ComponentParts}
 use Rattle.app_model.specs.Parts.{AppParts}
 use Rattle.app_model.specs.Subject.{SubjectParts}
+use Rattle.app_model.specs.Targets.{IsCallGraph, entry_count}
 use Rattle.app_link.specs.Linking.{IsLinked}
 use Rattle.app_link.specs.declared.link_fault.LinkFault.{LinkFault}
 use Rattle.app_link.specs.declared.link_fault.LinkFault.TheVariants as link
@@ -18,9 +20,13 @@ use Rattle.dex_file.specs.Content.{FileContent, class_text}
 use Rattle.dex_file.specs.Exact.{IsFault}
 use Rattle.dex_file.specs.Reading.{content_of}
 use Rattle.dex_file.specs.declared.fault.FileFault.{FileFault}
-use Rattle.straight_code.specs.Path.{path_subject}
-use Rattle.nosleep.specs.Judged.{IsJudged}
-use Rattle.nosleep.specs.Refusals.{Refusal, InList, InFile, InLink, NotBuilt}
+use Rattle.flow_model.specs.Breaks.{Candidate}
+use Rattle.flow_model.specs.InScope.{IsInScope}
+use Rattle.flow_model.specs.TagFlow.{IsTagTableOf}
+use Rattle.scope_check.specs.Causes.{IsCause}
+use Rattle.scope_check.specs.declared.scoping.ScopeFault.{ScopeFault}
+use Rattle.tag_flow.specs.Answers.{HasCells, HasFew}
+use Rattle.nosleep.specs.Refusals.{Refusal, Exceeds, InFile, InLink, InList, OutOfScope}
 
 -- none has more bytes than a DEX file may have
 abbrev pub AreSmall : List (Vec ℕ Global) → Type 0
@@ -62,6 +68,12 @@ pub record IsApplication (files : List (List ℕ)) (app : AppParts) : Type 0 whe
   pub read : AreContents files contents
   pub linked : IsLinked contents (Ok app)
 
+-- the entries of its call graph and the cells of its tags are as many as there may be
+pub record IsWithinLimits (app : AppParts) (graph : GraphParts) (list : List ComponentParts) : Type 0 where
+  pub targets : entry_count app ≤ limit_of Targets
+  pub graph : IsCallGraph app graph
+  pub cells : HasFew app graph list
+
 -- each step is taken where those before it are
 pub data ComesTo (listed : Result (List ListedParts) ListFault) (files : List (List ℕ)) : Result SubjectParts Refusal → Type 0 where
   bad_list : (fault : ListFault) → listed ≡ Err fault → ComesTo listed files (Err (InList fault))
@@ -71,7 +83,12 @@ pub data ComesTo (listed : Result (List ListedParts) ListFault) (files : List (L
       → ComesTo listed files (Err (InLink (named_by contents fault) fault))
   unbound : (rows : List ListedParts) (app : AppParts) (fault : ListFault) → listed ≡ Ok rows → IsApplication files app → bound_of app rows ≡ Err fault
       → ComesTo listed files (Err (InList fault))
-  not_built : (rows : List ListedParts) (app : AppParts) (list : List ComponentParts) → listed ≡ Ok rows → IsApplication files app → bound_of app rows ≡ Ok list → ¬ IsJudged list app
-      → ComesTo listed files (Err NotBuilt)
-  judged : (rows : List ListedParts) (app : AppParts) (list : List ComponentParts) → listed ≡ Ok rows → IsApplication files app → bound_of app rows ≡ Ok list → IsJudged list app
-      → (path_subject app).list ≡ list → ComesTo listed files (Ok (path_subject app))
+  -- the limits on what is found of the code: entries of the call graph, then cells of tags
+  many_targets : (rows : List ListedParts) (app : AppParts) (list : List ComponentParts) → listed ≡ Ok rows → IsApplication files app → bound_of app rows ≡ Ok list → limit_of Targets < entry_count app
+      → ComesTo listed files (Err (Exceeds Targets))
+  many_cells : (rows : List ListedParts) (app : AppParts) (graph : GraphParts) (list : List ComponentParts) (n : ℕ) → listed ≡ Ok rows → IsApplication files app → bound_of app rows ≡ Ok list → entry_count app ≤ limit_of Targets
+      → IsCallGraph app graph → HasCells app graph list n → limit_of TagCells < n → ComesTo listed files (Err (Exceeds TagCells))
+  -- a broken rule of scope
+  out_of_scope : (rows : List ListedParts) (found : Candidate) (fault : ScopeFault) → listed ≡ Ok rows → IsApplication files found.app → bound_of found.app rows ≡ Ok found.list → IsWithinLimits found.app found.graph found.list
+      → IsTagTableOf found.app found.graph found.list found.tags → IsCause found fault → ComesTo listed files (Err (OutOfScope fault))
+  judged : (rows : List ListedParts) (x : SubjectParts) → listed ≡ Ok rows → IsApplication files x.app → bound_of x.app rows ≡ Ok x.list → IsWithinLimits x.app x.graph x.list → IsInScope x → ComesTo listed files (Ok x)

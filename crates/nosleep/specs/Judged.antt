@@ -1,40 +1,19 @@
--- Which applications are judged, and what is answered to one.
-use Rattle.std.specs.Prelude.{ℕ, ◌≡◌, ◌≢◌, ◌==◌, ◌&&◌, Bool, true, false, List, [], ◌∷◌}
+-- What is answered to a subject in scope.
+use Rattle.std.specs.Prelude.{ℕ, ◌≡◌, ◌≢◌, ◌<◌, List, []}
 use Rattle.ns_base.specs.declared.answers.Exit.{Exit}
 use Rattle.ns_base.specs.declared.answers.Exit.TheVariants as exits
-use Rattle.app_model.specs.Components.{ComponentParts}
-use Rattle.app_model.specs.Parts.{AppParts}
-use Rattle.app_model.specs.Slots.{class_text}
-use Rattle.app_model.specs.Subject.{SubjectParts}
-use Rattle.app_model.specs.declared.component.Kind.{Kind}
-use Rattle.app_model.specs.declared.component.Kind.TheVariants.{Activity, Service, Receiver, Runnable}
+use Rattle.app_model.specs.Subject.{SubjectParts, slot_count}
 use Rattle.flow_model.specs.declared.policy.Violation.{Violation}
 use Rattle.flow_model.specs.Policy.{AreViolations}
-use Rattle.straight_code.specs.Receiver.{is_receiver}
-use Rattle.straight_code.specs.Verdict.{IsPlainPath, IsSafe}
 use Rattle.report_text.specs.Heads.{heads_text}
 use Rattle.report_text.specs.Texts.{accept_text}
+use Rattle.run_model.specs.Machine.{run_of}
+use Rattle.run_model.specs.Soundness.{LeavesNoneHeld, StandsWell}
 
-abbrev pub is_receiver_kind : Kind → Bool
-is_receiver_kind Receiver = true
-is_receiver_kind Activity = false
-is_receiver_kind Service = false
-is_receiver_kind Runnable = false
-
--- a row lists the receiver that the application is, with its one exit
-abbrev pub is_receiver_row : ComponentParts → AppParts → Bool
-is_receiver_row row app = is_receiver_kind row.kind && (row.exits == 1 && is_receiver app (class_text app row.class.0))
-
--- one receiver is listed, and the application is that receiver
-abbrev pub is_one_receiver : List ComponentParts → AppParts → Bool
-is_one_receiver [] app = false
-is_one_receiver (row ∷ []) app = is_receiver_row row app
-is_one_receiver (row ∷ other ∷ rows) app = false
-
--- and its code is plain and in scope
-pub record IsJudged (list : List ComponentParts) (app : AppParts) : Type 0 where
-  pub form : is_one_receiver list app ≡ true
-  pub path : IsPlainPath app
+-- no run of the machine stands at an exit with a lock held for which the component answers, and none ends with a lock that
+-- went where it is not followed
+abbrev pub IsSafe : SubjectParts → Type 0
+IsSafe x = (l : ℕ) → l < slot_count x → (choices : List ℕ) → StandsWell x l (run_of x choices) × LeavesNoneHeld x l (run_of x choices)
 
 -- the rules derive some violations, and these are their heads
 abbrev pub HasHeads : List ℕ → SubjectParts → Type 0

@@ -1,5 +1,6 @@
 -- What the steps from bytes to an answer come to.
-use Rattle.std.specs.Prelude.{ℕ, ◌≡◌, ◌≢◌, List, [], Result}
+use Rattle.std.specs.Prelude.{ℕ, ◌≡◌, ◌≢◌, List, [], Option, Some, None, Result}
+use Rattle.ns_base.specs.declared.answers.Counted.{Counted}
 use Rattle.ns_base.specs.declared.answers.Exit.{Exit}
 use Rattle.ns_base.specs.declared.answers.Exit.TheVariants as exits
 use Rattle.app_model.specs.Components.{ComponentParts}
@@ -13,7 +14,11 @@ use Rattle.report_text.specs.Heads.{heads_text}
 use Rattle.report_text.specs.Texts.{accept_text}
 use Rattle.nosleep.specs.Answer.{BytesComeTo, IsOutcome}
 use Rattle.nosleep.specs.Files.{AreContents, ComesTo, FailsAt}
-use Rattle.nosleep.specs.Refusals.{Refusal}
+use Rattle.call_targets.specs.declared.fault.TargetFault.{TargetFault}
+use Rattle.call_targets.specs.declared.fault.TargetFault.TheVariants as targets
+use Rattle.tag_flow.specs.declared.fault.TagFault.{TagFault}
+use Rattle.tag_flow.specs.declared.fault.TagFault.TheVariants as tags
+use Rattle.nosleep.specs.Refusals.{IsOver, Refusal}
 use Rattle.nosleep.specs.Words.{Form}
 use Rattle.nosleep.specs.declared.contents.Contents.{Contents}
 use Rattle.nosleep.specs.declared.contents.Contents.TheVariants.{Read, Bad}
@@ -34,6 +39,19 @@ HasContents files (Bad i fault) = FailsAt files i fault
 abbrev pub CanBeLinked : Contents → Type 0
 CanBeLinked (Read parts) = AreShort parts.items
 CanBeLinked (Bad i fault) = Unit {0}
+
+-- the count that a step found too many; none where memory ran out
+abbrev pub counted_target : TargetFault → Option Counted
+counted_target (targets.Limit which) = Some which
+counted_target targets.Memory = None
+
+abbrev pub counted_tag : TagFault → Option Counted
+counted_tag (tags.Limit which) = Some which
+counted_tag tags.Memory = None
+
+abbrev pub IsTooMany : Option Counted → List ℕ → Exit → Type 0
+IsTooMany None text exit = ⊥
+IsTooMany (Some which) text exit = IsOver which text exit
 
 -- the answer to the violations of an application
 abbrev pub IsTold : AppParts → List ComponentParts → List Violation → List ℕ → Exit → Type 0

@@ -17,7 +17,9 @@ use Rattle.report_text.specs.DexFaults.{bad_dex_text}
 use Rattle.report_text.specs.Limits.{over_limit_text}
 use Rattle.report_text.specs.LinkFaults.{bad_link_text}
 use Rattle.report_text.specs.ListFaults.{bad_list_text}
-use Rattle.report_text.specs.Texts.{not_built_text}
+use Rattle.report_text.specs.Refusals.{refused_text}
+use Rattle.scope_check.specs.declared.scoping.ScopeFault.{ScopeFault}
+use Rattle.scope_check.specs.declared.scoping.ScopeFault.TheVariants as scope
 
 pub data Refusal : Type 0 where
   -- the list, or what it names in the application
@@ -26,8 +28,10 @@ pub data Refusal : Type 0 where
   InFile : (number : ℕ) → FileFault → Refusal
   -- the files together; the name is that of the class that the fault names, where it names one
   InLink : (name : List ℕ) → LinkFault → Refusal
-  -- an application that is not judged yet
-  NotBuilt : Refusal
+  -- what is found of the code of the application is too much
+  Exceeds : Counted → Refusal
+  -- the application is not in scope
+  OutOfScope : ScopeFault → Refusal
 
 -- ---- its text
 abbrev pub refusal_text : Refusal → List ℕ
@@ -36,7 +40,8 @@ refusal_text (InFile number (file.Dex fault)) = bad_dex_text number fault
 refusal_text (InFile number (file.Code method fault)) = bad_code_text number method fault
 refusal_text (InFile number file.Memory) = []
 refusal_text (InLink name fault) = bad_link_text name fault
-refusal_text NotBuilt = not_built_text
+refusal_text (Exceeds which) = over_limit_text which
+refusal_text (OutOfScope fault) = refused_text fault
 
 -- ---- a count that exceeds its limit has another text and exit
 abbrev pub list_limit : ListFault → Option Counted
@@ -57,7 +62,8 @@ abbrev pub refusal_limit : Refusal → Option Counted
 refusal_limit (InList fault) = list_limit fault
 refusal_limit (InFile number fault) = file_limit fault
 refusal_limit (InLink name fault) = link_limit fault
-refusal_limit NotBuilt = None
+refusal_limit (Exceeds which) = Some which
+refusal_limit (OutOfScope fault) = None
 
 -- ---- want of memory is no refusal
 abbrev pub is_file_memory : FileFault → Bool
@@ -71,22 +77,32 @@ abbrev pub is_link_memory : LinkFault → Bool
 is_link_memory link.Memory = true
 is_link_memory fault = false
 
+abbrev pub is_scope_memory : ScopeFault → Bool
+is_scope_memory scope.Memory = true
+is_scope_memory fault = false
+
 abbrev pub is_memory : Refusal → Bool
 is_memory (InList fault) = lists.is_memory fault
 is_memory (InFile number fault) = is_file_memory fault
 is_memory (InLink name fault) = is_link_memory fault
-is_memory NotBuilt = false
+is_memory (Exceeds which) = false
+is_memory (OutOfScope fault) = is_scope_memory fault
 
 -- ---- the exit and text of a refusal
-abbrev pub IsBad : List ℕ → List ℕ → Exit → Type 0
-IsBad wanted text exit = (exit ≡ exits.Bad) × (text ≡ wanted)
+-- where no count exceeds its limit
+abbrev pub refusal_exit : Refusal → Exit
+refusal_exit (InList fault) = exits.Bad
+refusal_exit (InFile number fault) = exits.Bad
+refusal_exit (InLink name fault) = exits.Bad
+refusal_exit (Exceeds which) = exits.Limit
+refusal_exit (OutOfScope fault) = exits.Scope
 
 abbrev pub IsOver : Counted → List ℕ → Exit → Type 0
 IsOver which text exit = (exit ≡ exits.Limit) × (text ≡ over_limit_text which)
 
-abbrev pub IsRefusedAs : Option Counted → (wanted : List ℕ) → List ℕ → Exit → Type 0
-IsRefusedAs None wanted text exit = IsBad wanted text exit
-IsRefusedAs (Some which) wanted text exit = IsOver which text exit
+abbrev pub IsRefusedAs : Option Counted → (by : Exit) (wanted : List ℕ) → List ℕ → Exit → Type 0
+IsRefusedAs None by wanted text exit = (exit ≡ by) × (text ≡ wanted)
+IsRefusedAs (Some which) by wanted text exit = IsOver which text exit
 
 abbrev pub IsRefused : Refusal → List ℕ → Exit → Type 0
-IsRefused refusal text exit = (is_memory refusal ≡ false) × IsRefusedAs (refusal_limit refusal) (refusal_text refusal) text exit
+IsRefused refusal text exit = (is_memory refusal ≡ false) × IsRefusedAs (refusal_limit refusal) (refusal_exit refusal) (refusal_text refusal) text exit

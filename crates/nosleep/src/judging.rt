@@ -1,27 +1,39 @@
 //! From a component list and the bytes of DEX files to the answer.
-ghost use Rattle.std.specs.Prelude.{◌≡◌, ◌≤◌, ◌<◌, ℕ, List, [], ◌∷◌, length, map, IfOk, IsTrue, Ok};
-ghost use Rattle.app_model.specs.Components.{BelongsTo, ComponentParts};
+ghost use Rattle.std.specs.Prelude.{◌≡◌, ◌≤◌, ℕ, List, length, map, IfOk, Ok};
+ghost use Rattle.ns_base.specs.Answers.{limit_of};
+ghost use Rattle.ns_base.specs.declared.answers.Counted.TheVariants.{Sites, Targets};
+ghost use Rattle.app_model.specs.Components.{BelongsTo};
+ghost use Rattle.app_model.specs.Sites.{sites_below};
+ghost use Rattle.app_model.specs.Targets.{IsCallGraph, entry_count};
+ghost use Rattle.class_graph.specs.Belongs.{IsClassGraph};
+ghost use Rattle.flow_model.specs.InScope.{IsInScope};
+ghost use Rattle.flow_model.specs.TagFlow.{IsTagTableOf};
 ghost use Rattle.app_link.specs.Linking.{AreShort};
 ghost use Rattle.component_list.specs.Binding.{bound_of};
 ghost use Rattle.component_list.specs.Listed.{IsReadList, ListedParts};
 ghost use Rattle.component_list.specs.Reading.{listed_of};
-ghost use Rattle.nosleep.specs.Files.{AreContents, AreSmall, IsApplication};
-ghost use Rattle.nosleep.specs.Judged.{is_one_receiver, is_receiver_row};
+ghost use Rattle.nosleep.specs.Files.{AreContents, AreSmall, IsApplication, IsWithinLimits};
+ghost use Rattle.nosleep.specs.Judged.{IsJudgement};
 ghost use Rattle.nosleep.specs.Outcome.{HasOutcome, IsTold};
-ghost use Rattle.straight_code.specs.Verdict.{IsSmallApp};
 
 use crate::contents::{Contents, read_contents};
-use crate::refusing::{Answer, refuse_app, refuse_file, refuse_link, refuse_list};
+use crate::refusing::{
+    Answer, refuse_file, refuse_link, refuse_list, refuse_scope, refuse_tags, refuse_targets,
+};
 use app_link::link;
-use app_model::{App, ComponentRow, Kind};
-use class_graph::build;
+use app_model::{App, CallGraph, ComponentTable, Subject, TagTable};
+use call_targets::targets;
+use class_graph::{ClassGraph, build};
 use component_list::{Listed, bind_list, read_list};
 use dex_file::DexParts;
 use flow_model::Violation;
 use ns_base::{Exit, OutOfMemory};
 use report_text::{accept, heads_text};
+use run_model::soundness;
+use scope_check::scope;
 use std::alloc::{AllocError, Global};
-use straight_code::{is_receiver, judge};
+use tag_flow::tags;
+use view_solver::all_violations;
 
 /// The answer to DEX files under the list of these bytes.
 pub fn answer_list(alloc: Global, list: &[u8], files: &[Vec<u8>]) -> Result<Answer, AllocError>
@@ -67,76 +79,106 @@ fn answer_parts(
     ensures { IfOk result (λ a. HasOutcome (Ok listed.now) (map (λ bytes. bytes.items) files.now) a.text.items a.exit) }
 {
     match link(alloc, parts) {
-        Ok(app) => answer_app(alloc, listed, &app),
+        Ok(app) => answer_app(alloc, listed, app),
         Err(fault) => refuse_link(alloc, files, fault),
     }
 }
 
 // The answer to an application.
-fn answer_app(alloc: Global, listed: &Listed, app: &App) -> Result<Answer, AllocError>
-    requires { IsReadList listed.now }
-    ensures { (files : List (List ℕ)) → IsApplication files app.now → IfOk result (λ a. HasOutcome (Ok listed.now) files a.text.items a.exit) }
+fn answer_app(alloc: Global, listed: &Listed, app: App) -> Result<Answer, AllocError>
+    requires list { IsReadList listed.now }
+    requires sites { sites_below app (length app.methods) ≤ limit_of Sites }
+    ensures { (files : List (List ℕ)) → IsApplication files app → IfOk result (λ a. HasOutcome (Ok listed.now) files a.text.items a.exit) }
 {
-    let classes = match build(alloc, app) {
+    let classes = match build(alloc, &app) {
         Ok(classes) => classes,
         Err(OutOfMemory) => return Err(AllocError),
     };
-    match bind_list(alloc, listed, app, &classes) {
-        Ok(list) => judge_list(alloc, app, &list.rows),
+    match bind_list(alloc, listed, &app, &classes) {
+        Ok(list) => answer_bound(alloc, app, &classes, list),
         Err(fault) => refuse_list(alloc, fault),
     }
 }
 
 // The answer to an application with its components.
-fn judge_list(alloc: Global, app: &App, list: &[ComponentRow]) -> Result<Answer, AllocError>
-    requires { BelongsTo app.now list.now }
-    ensures { (rows : List ListedParts) (files : List (List ℕ)) → IsApplication files app.now → bound_of app.now rows ≡ Ok list.now
+fn answer_bound(
+    alloc: Global,
+    app: App,
+    classes: &ClassGraph,
+    list: ComponentTable,
+) -> Result<Answer, AllocError>
+    requires classes { IsClassGraph app classes.now }
+    requires list { BelongsTo app list }
+    requires sites { sites_below app (length app.methods) ≤ limit_of Sites }
+    ensures { (rows : List ListedParts) (files : List (List ℕ)) → IsApplication files app → bound_of app rows ≡ Ok list
         → IfOk result (λ a. HasOutcome (Ok rows) files a.text.items a.exit) }
 {
-    if !is_one_receiver(app, list) {
-        return refuse_app(alloc);
-    }
-    app.told();
-    match judge(alloc, app)? {
-        None => refuse_app(alloc),
-        Some(violations) => tell(alloc, app, list, &violations),
+    match targets(alloc, &app, classes) {
+        Ok(graph) => answer_called(alloc, app, classes, graph, list),
+        Err(fault) => refuse_targets(alloc, fault),
     }
 }
 
-// Whether a row lists the receiver that the application is, with its one exit.
-fn is_receiver_row(app: &App, row: &ComponentRow) -> bool
-    requires { row.now.class.0 < length app.now.classes }
-    ensures is { result ≡ is_receiver_row row.now app.now }
-    ensures small { IsTrue result → IsSmallApp app.now }
+// The answer to an application with what its calls can call.
+fn answer_called(
+    alloc: Global,
+    app: App,
+    classes: &ClassGraph,
+    graph: CallGraph,
+    list: ComponentTable,
+) -> Result<Answer, AllocError>
+    requires classes { IsClassGraph app classes.now }
+    requires graph { IsCallGraph app graph }
+    requires few { entry_count app ≤ limit_of Targets }
+    requires list { BelongsTo app list }
+    requires sites { sites_below app (length app.methods) ≤ limit_of Sites }
+    ensures { (rows : List ListedParts) (files : List (List ℕ)) → IsApplication files app → bound_of app rows ≡ Ok list
+        → IfOk result (λ a. HasOutcome (Ok rows) files a.text.items a.exit) }
 {
-    match row.kind {
-        Kind::Receiver => {
-            row.exits == 1 && is_receiver(app, app.type_text(app.class(row.class).name))
-        }
-        Kind::Activity | Kind::Service | Kind::Runnable => false,
+    match tags(alloc, &app, classes, &graph, &list) {
+        Ok(table) => answer_tagged(alloc, app, classes, graph, list, table),
+        Err(fault) => refuse_tags(alloc, fault),
     }
 }
 
-// Whether one receiver is listed, and the application is that receiver.
-fn is_one_receiver(app: &App, list: &[ComponentRow]) -> bool
-    requires { BelongsTo app.now list.now }
-    ensures is { result ≡ is_one_receiver list.now app.now }
-    ensures small { IsTrue result → IsSmallApp app.now }
+// The answer to an application with its tags.
+fn answer_tagged(
+    alloc: Global,
+    app: App,
+    classes: &ClassGraph,
+    graph: CallGraph,
+    list: ComponentTable,
+    table: TagTable,
+) -> Result<Answer, AllocError>
+    requires classes { IsClassGraph app classes.now }
+    requires within { IsWithinLimits app graph list }
+    requires list { BelongsTo app list }
+    requires tags { IsTagTableOf app graph list table }
+    ensures { (rows : List ListedParts) (files : List (List ℕ)) → IsApplication files app → bound_of app rows ≡ Ok list
+        → IfOk result (λ a. HasOutcome (Ok rows) files a.text.items a.exit) }
 {
-    match list {
-        [row] => is_receiver_row(app, row),
-        _ => false,
+    match scope(alloc, app, classes, graph, list, table) {
+        Ok(subject) => judge(alloc, &subject),
+        Err(fault) => refuse_scope(alloc, &fault),
+    }
+}
+
+// The answer to a subject in scope.
+fn judge(alloc: Global, subject: &Subject) -> Result<Answer, AllocError>
+    requires { IsInScope subject.now }
+    ensures { IfOk result (λ a. IsJudgement subject.now a.text.items a.exit) }
+{
+    subject.told();
+    soundness();
+    match all_violations(alloc, subject) {
+        Ok(found) => tell(alloc, subject, &found),
+        Err(OutOfMemory) => Err(AllocError),
     }
 }
 
 // The answer to violations.
-fn tell(
-    alloc: Global,
-    app: &App,
-    list: &[ComponentRow],
-    violations: &[Violation],
-) -> Result<Answer, AllocError>
-    ensures { IfOk result (λ a. IsTold app.now list.now violations.now a.text.items a.exit) }
+fn tell(alloc: Global, subject: &Subject, violations: &[Violation]) -> Result<Answer, AllocError>
+    ensures { IfOk result (λ a. IsTold subject.now.app subject.now.list violations.now a.text.items a.exit) }
 {
     if violations.is_empty() {
         return Ok(Answer {
@@ -146,6 +188,6 @@ fn tell(
     }
     Ok(Answer {
         exit: Exit::Reports,
-        text: heads_text(alloc, app, list, violations)?,
+        text: heads_text(alloc, &subject.app, &subject.list.rows, violations)?,
     })
 }

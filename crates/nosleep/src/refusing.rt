@@ -3,16 +3,20 @@ ghost use Rattle.std.specs.Prelude.{◌≡◌, List, map, slice_get, IfOk};
 ghost use Rattle.ns_base.specs.declared.answers.Exit.TheVariants as exits;
 ghost use Rattle.dex_file.specs.Content.{FileContent};
 ghost use Rattle.nosleep.specs.Files.{AreContents, AreSmall, class_in, named_by};
-ghost use Rattle.nosleep.specs.Refusals.{IsOver, IsRefused, InFile, InLink, InList, NotBuilt};
+ghost use Rattle.nosleep.specs.Refusals.{IsOver, IsRefused, InFile, InLink, InList, OutOfScope};
+ghost use Rattle.nosleep.specs.Outcome.{IsTooMany, counted_tag, counted_target};
 
 use app_link::LinkFault;
+use call_targets::TargetFault;
 use component_list::ListFault;
 use dalvik_decode::CodeFault;
 use dex_bytes::DexFault;
 use dex_file::{FileFault, class_name};
 use ns_base::{Counted, Exit};
-use report_text::{bad_code, bad_dex, bad_link, bad_list, not_built, over_limit};
+use report_text::{bad_code, bad_dex, bad_link, bad_list, over_limit, refused};
+use scope_check::ScopeFault;
 use std::alloc::{AllocError, Global};
+use tag_flow::TagFault;
 
 /// An exit, and the text that is written with it.
 #[derive(Drop)]
@@ -98,9 +102,35 @@ pub fn over(alloc: Global, which: Counted) -> Result<Answer, AllocError>
     })
 }
 
-/// The answer to an application that is not judged yet.
-pub fn refuse_app(alloc: Global) -> Result<Answer, AllocError>
-    ensures { IfOk result (λ a. IsRefused NotBuilt a.text.items a.exit) }
+/// The answer to calls with too many targets.
+pub fn refuse_targets(alloc: Global, fault: TargetFault) -> Result<Answer, AllocError>
+    ensures { IfOk result (λ a. IsTooMany (counted_target fault) a.text.items a.exit) }
 {
-    Ok(bad(not_built(alloc)?))
+    match fault {
+        TargetFault::Limit(which) => over(alloc, which),
+        TargetFault::Memory => Err(AllocError),
+    }
+}
+
+/// The answer to too many cells of tags.
+pub fn refuse_tags(alloc: Global, fault: TagFault) -> Result<Answer, AllocError>
+    ensures { IfOk result (λ a. IsTooMany (counted_tag fault) a.text.items a.exit) }
+{
+    match fault {
+        TagFault::Limit(which) => over(alloc, which),
+        TagFault::Memory => Err(AllocError),
+    }
+}
+
+/// The answer to the first rule of scope that is broken.
+pub fn refuse_scope(alloc: Global, fault: &ScopeFault) -> Result<Answer, AllocError>
+    ensures { IfOk result (λ a. IsRefused (OutOfScope fault.now) a.text.items a.exit) }
+{
+    match fault {
+        ScopeFault::Memory => Err(AllocError),
+        ScopeFault::Rule { .. } => Ok(Answer {
+            exit: Exit::Scope,
+            text: refused(alloc, fault)?,
+        }),
+    }
 }

@@ -5,7 +5,7 @@ ghost use Rattle.nosleep.specs.Words.{Form, form_of};
 ghost use Rattle.nosleep.specs.Answer.{AreJudged, AreTold, IsAnswer, IsEnd};
 ghost use Rattle.nosleep.specs.Reading.{KeepsShelf};
 ghost use Rattle.app_model.specs.Subject.{SubjectParts};
-ghost use Rattle.straight_code.specs.Verdict.{IsSafe};
+ghost use Rattle.nosleep.specs.Judged.{IsSafe};
 
 use crate::answer::find_answer;
 use crate::writing::write_all;

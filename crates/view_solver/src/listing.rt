@@ -159,11 +159,7 @@ fn list_component(
     Ok(())
 }
 
-fn list_all(
-    alloc: Global,
-    subject: &Subject,
-    all: &[Vec<u8>],
-) -> Result<Vec<Violation>, AllocError>
+fn list_all(alloc: Global, subject: &Subject, all: &[Vec<u8>]) -> Result<Vec<Violation>, AllocError>
     requires { AreAllMasks subject.now (slot_count subject.now) (map (λ masks. masks.items) all.now) }
     ensures { IfOk result (λ found. AreReported subject.now (4096 * length subject.now.list) found.items) }
 {

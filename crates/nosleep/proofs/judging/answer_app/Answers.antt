@@ -6,8 +6,7 @@ use Rattle.nosleep.proofs.judging.answer_app.Goals as goal
 
 pub returns-in-Ok-bind_list : goal.returns-in-Ok-bind_list
 returns-in-Ok-bind_list c = λ files is.
-    let bound : bound_of c.args.app.now c.args.listed.now ≡ Ok c.deref.result.now = search rules in
-    c.judge_list.ensures c.args.listed.now files is bound
+    c.answer_bound.ensures c.args.listed.now files is c.in-Ok-bind_list.ensures.bound
 
 pub returns : goal.returns
 returns c = λ files is.
