@@ -9,6 +9,7 @@ and that memory is found where there is memory.
 """
 import os
 import pathlib
+import shutil
 import subprocess
 import sys
 import tempfile
@@ -29,7 +30,12 @@ LEAK = b"""report 1 of 2: Lapp/R;->wl is C1 after Lapp/R;->onReceive
 report 2 of 2: Lapp/R;->wl is L after Lapp/R;->onReceive
 """
 R = "Lapp/R;"
+MUTUAL = b"".join(
+    b"report %d of 4: Lapp/R;->wl is %s after Lapp/R;->onReceive\n" % (number, status)
+    for number, status in enumerate((b"C1", b"C2", b"CT", b"L"), 1)
+)
 LIST = b'[[component]]\nkind = "receiver"\nclass = "Lapp/R;"\n'
+INNER = b'[[component]]\nkind = "activity"\nclass = "Lapp/A;"\n[[component]]\nkind = "runnable"\nclass = "Lapp/A$1;"\n'
 # A name that no folder takes. Its text is longer than a pipe holds, so that it cannot go in one piece.
 LONG = "\x01" * 30_000
 
@@ -55,7 +61,11 @@ RUNS = [
     ("a list", ["verify", "list.toml", "works.dex"], None, 0, b"accept\n"),
     ("a list of a leaking receiver", ["verify", "list.toml", "leaks.dex"], None, 1, LEAK),
     ("a list and no file", ["verify", "list.toml"], None, 4, HELP),
-    ("an empty list", ["verify", "/dev/null", "works.dex"], None, 3, b"bad dex 0 NotBuilt\n"),
+    ("an empty list", ["verify", "/dev/null", "works.dex"], None, 2, b"refused N8 Lapp/R;->onReceive 0 11\n"),
+    ("an activity and its runnable", ["verify", "inner.toml", "inner_class.dex"], None, 0, b"accept\n"),
+    ("a throw that is caught while a lock is held", ["receiver", "thrown_leaks.dex", R], None, 1, LEAK),
+    ("methods that call each other while they hold", ["receiver", "mutual_holds.dex", R], None, 1, MUTUAL),
+    ("too many cells of tags", ["receiver", "wide.dex", R], None, 8, b"limit TagCells\n"),
     ("a list that is none", ["verify", "works.dex", "works.dex"], None, 3, b"bad list Text\n"),
     ("a folder as a list", ["verify", ".", "works.dex"], None, 5, b"cannot read .\n"),
     ("a pipe as a list", ["verify", "/dev/stdin", "works.dex"], "list.toml", 0, b"accept\n"),
@@ -77,6 +87,9 @@ def lay_out(folder):
         with open(folder / f"{name}.dex", "wb") as file:
             file.truncate(size)
     (folder / "list.toml").write_bytes(LIST)
+    (folder / "inner.toml").write_bytes(INNER)
+    for name in ("inner_class", "thrown_leaks", "mutual_holds", "wide"):
+        shutil.copy(TOP / f"crates/sample_apps/data/{name}.dex", folder)
     for name, size in (("most", LIST_LIMIT), ("more", LIST_LIMIT + 1)):
         (folder / f"{name}.toml").write_bytes(LIST + b"#" * (size - len(LIST)))
     # classes, members, code with each payload, and tries, as a compiled application has them

@@ -5,7 +5,7 @@ use dex_bytes::adler32;
 use lists::{BAD_LISTS, LIST, LISTS, List};
 use ns_base::{Exit, Failed, Shelf, Sink};
 use ns_memory::{MemoryShelf, MemorySink};
-use rows::{ACCEPTED, JUDGED, MAKE, NOT_BUILT, OTHERS, R, REFUSED, RETURN, Row, Told, WORKS};
+use rows::{ACCEPTED, JUDGED, MAKE, OUTSIDE, R, REFUSED, RETURN, Row, Told, WORKS};
 use std::alloc::{AllocError, Global};
 use std::fs;
 use std::test::Fail;
@@ -139,8 +139,8 @@ fn a_receiver_is_accepted_or_reported(rt: HostRuntime) -> Result<(), Fail> {
 }
 
 #[test]
-fn other_applications_are_not_built(rt: HostRuntime) -> Result<(), Fail> {
-    assert_eq!(rt; first_wrong(rt.alloc(), &OTHERS)?, None);
+fn what_is_out_of_scope_is_refused_by_rule_and_place(rt: HostRuntime) -> Result<(), Fail> {
+    assert_eq!(rt; first_wrong(rt.alloc(), &OUTSIDE)?, None);
     Ok(())
 }
 

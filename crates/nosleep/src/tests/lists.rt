@@ -1,5 +1,5 @@
 //! What `verify` answers by the text of its component list, over the sample.
-use super::rows::{ACCEPTED, NOT_BUILT, Told};
+use super::rows::{ACCEPTED, Told};
 use ns_base::Exit;
 
 /// What a list shows, its text, and the answer.
@@ -8,6 +8,9 @@ pub type List = (&'static str, &'static str, Told);
 /// The list of the sample's receiver.
 pub const LIST: &str = "[[component]]\nkind = \"receiver\"\nclass = \"Lapp/R;\"\n";
 
+// No callback of the list leads to the receiver's method, which makes a lock.
+const UNREACHED: Told = (Exit::Scope, "refused N8 Lapp/R;->onReceive 0 11\n");
+
 pub static LISTS: [List; 8] = [
     ("a receiver", LIST, ACCEPTED),
     (
@@ -15,11 +18,11 @@ pub static LISTS: [List; 8] = [
         "[[component]]\nkind = \"receiver\"\nclass = \"Lapp/R;\"\nexits = [\"onReceive\"]\n",
         ACCEPTED,
     ),
-    ("no component", "", NOT_BUILT),
+    ("no component", "", UNREACHED),
     (
         "another kind",
         "[[component]]\nkind = \"activity\"\nclass = \"Lapp/R;\"\n",
-        NOT_BUILT,
+        UNREACHED,
     ),
     (
         "a class of no file",

@@ -1,4 +1,4 @@
-//! What `receiver` answers to classes of straight-line code. A new lock has status C0 in its field, one that is acquired
+//! What `receiver` answers to one class. A new lock has status C0 in its field, one that is acquired
 //! C1, C2 and then CT; L is a lock that is held and lost to its field. A broadcast may follow on any other.
 use super::layout::Class;
 use ns_base::Exit;
@@ -10,8 +10,6 @@ pub type Told = (Exit, &'static str);
 pub type Row = (&'static str, Class, &'static [&'static [u16]], Told);
 
 pub const ACCEPTED: Told = (Exit::Accept, "accept\n");
-
-pub const NOT_BUILT: Told = (Exit::Bad, "bad dex 0 NotBuilt\n");
 
 const C1_AND_LOST: Told = (
     Exit::Reports,
@@ -158,7 +156,7 @@ const HANDLES: &[&[u16]] = &[
 ];
 
 /// What is accepted, or reported.
-pub static JUDGED: [Row; 14] = [
+pub static JUDGED: [Row; 21] = [
     ("acquired and released", R, WORKS, ACCEPTED),
     ("only returns", R, &[RETURN], ACCEPTED),
     ("does nothing, and returns", R, &[NOP, RETURN], ACCEPTED),
@@ -200,7 +198,29 @@ pub static JUDGED: [Row; 14] = [
         WORKS,
         ACCEPTED,
     ),
+    (
+        "a string is released, which is none",
+        R,
+        &[MAKE, PUT, RELEASE_STRING, RETURN],
+        ACCEPTED,
+    ),
+    (
+        "what an outside call throws ends the application",
+        R,
+        &[MAKE, PUT, GET, ACQUIRE, GC, GET, RELEASE, RETURN],
+        ACCEPTED,
+    ),
+    ("a goto", R, &[&[0x0128], RETURN], ACCEPTED),
+    ("a branch", R, &[NULL, &[0x0038, 2], RETURN], ACCEPTED),
+    ("a move", R, &[NULL, &[0x0101], RETURN], ACCEPTED),
+    ("64 lock fields", LOCKS, WORKS, ACCEPTED),
     ("acquired and not released", R, LEAKS, C1_AND_LOST),
+    (
+        "what an outside call throws is caught, and the lock stays held",
+        TRY,
+        HANDLES,
+        C1_AND_LOST,
+    ),
     (
         "acquired twice and released once",
         R,
@@ -224,65 +244,51 @@ pub static JUDGED: [Row; 14] = [
     ("a name with a blank is shown", BLANK, LEAKS, SHOWN),
 ];
 
-/// What is no application that is judged.
-pub static OTHERS: [Row; 13] = [
+/// What is out of scope: the rule, the method with its number, and the pc.
+pub static OUTSIDE: [Row; 5] = [
     (
-        "a context that is a thread",
+        "a call on a context that is a thread",
         CONTEXT_THREAD,
         WORKS,
-        NOT_BUILT,
+        (
+            Exit::Scope,
+            "refused N3 Landroid/content/Context;->onReceive 0 2\n",
+        ),
     ),
-    ("a try", TRY, HANDLES, NOT_BUILT),
     (
-        "a new lock is stored over a held one",
+        "a second place stores a new lock",
         R,
         &[MAKE, PUT, GET, ACQUIRE, MAKE, PUT, RETURN],
-        NOT_BUILT,
+        (Exit::Scope, "refused N6 Lapp/R;->onReceive 0 37\n"),
     ),
     (
         "what the field has is stored",
         R,
         &[MAKE, PUT, GET, PUT, RETURN],
-        NOT_BUILT,
+        (Exit::Scope, "refused N4 Lapp/R;->onReceive 0 19\n"),
     ),
     (
         "a lock is acquired that is in no field",
         R,
         &[MAKE, ACQUIRE, RETURN],
-        NOT_BUILT,
+        (Exit::Scope, "refused N4 Lapp/R;->onReceive 0 15\n"),
     ),
     (
         "a lock is passed to another call",
         R,
         &[MAKE, PUT, GET, PASS, RETURN],
-        NOT_BUILT,
+        (Exit::Scope, "refused N4 Lapp/R;->onReceive 0 19\n"),
     ),
-    (
-        "a string is released",
-        R,
-        &[MAKE, PUT, RELEASE_STRING, RETURN],
-        NOT_BUILT,
-    ),
-    (
-        "an outside call",
-        R,
-        &[MAKE, PUT, GET, ACQUIRE, GC, GET, RELEASE, RETURN],
-        NOT_BUILT,
-    ),
-    ("a goto", R, &[&[0x0128], RETURN], NOT_BUILT),
-    ("a branch", R, &[NULL, &[0x0038, 2], RETURN], NOT_BUILT),
-    ("a move", R, &[NULL, &[0x0101], RETURN], NOT_BUILT),
+];
+
+/// What is refused with the first fault or limit of reading, linking or binding.
+pub static REFUSED: [Row; 16] = [
     (
         "an abstract method",
         ABSTRACT,
         &[],
         (Exit::Bad, "bad list NoCallback 0\n"),
     ),
-    ("64 lock fields", LOCKS, WORKS, NOT_BUILT),
-];
-
-/// What is refused with the first fault or limit of reading or linking.
-pub static REFUSED: [Row; 15] = [
     (
         "no opcode",
         R,
