@@ -1,12 +1,10 @@
 -- Every tag of a row that flows is one of the application.
-use Rattle.std.proofs.Common.{◌≡◌, ◌-◌, ℕ, suc, zero, ◌<◌, ◌++◌, List, [], ◌∷◌, length, map, set, replicate, drop, Bool, true, false, if◌then◌else◌, eqb, Option, Some, None, refl, sym, ap, ◌∙◌, subst, ⊎_elim, arith}
+use Rattle.std.proofs.Common.{◌≡◌, ◌-◌, ℕ, suc, zero, ◌<◌, ◌++◌, List, [], ◌∷◌, map, set, replicate, drop, Bool, true, false, if◌then◌else◌, eqb, Option, Some, None, refl, sym, subst, ⊎_elim}
 use Rattle.std.proofs.lemmas.Bool.{cases_lt}
-use Rattle.std.proofs.lemmas.Option.{slice_get-get_or}
 use Rattle.ns_base.specs.declared.rows.LockNo.{LockNo}
 use Rattle.dalvik.specs.declared.ins.Args.{Args}
 use Rattle.dalvik.specs.Registers.{args_of}
 use Rattle.dalvik.specs.Calls.{receiver_of}
-use Rattle.app_model.specs.Sites.{site_at}
 use Rattle.app_model.specs.TagTable.{TagParts, row_at, width_at}
 use Rattle.app_model.specs.declared.calls.By.{By}
 use Rattle.app_model.specs.declared.calls.By.TheVariants.{Virtual, Super, Direct, Static}
@@ -28,13 +26,9 @@ use Rattle.act_model.specs.Changes.{after, after_stored, call_change, called_cha
 use Rattle.act_model.specs.Entries.{call_words, callback_row, entering, entering_words, entry_row, fitted}
 use Rattle.flow_model.specs.TagFlow.{answered, callee_row}
 use Rattle.tag_rows.specs.Cells.{AreTagsOf, IsTagOf}
-use Rattle.app_model.specs.Masks.{in_lock_mask}
 use Rattle.app_model.specs.Parts.{AppParts}
-use Rattle.act_model.specs.Acts.{act_at}
-use Rattle.tag_rows.specs.declared.change.Change.{Change}
-use Rattle.tag_rows.specs.declared.sites.Site.{Site}
-use Rattle.tag_rows.specs.Changes.{changed, makes_lock}
-use Rattle.tag_rows.proofs.Acts.{act_made, act_slot, act_within, method_within, named_slot}
+use Rattle.tag_rows.specs.Changes.{makes_lock}
+use Rattle.tag_rows.proofs.Acts.{named_slot}
 
 module _ (locks : ℕ) where
   abbrev Fits : Tag → Type 0

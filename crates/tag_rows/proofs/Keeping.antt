@@ -1,16 +1,8 @@
 -- What changes keep of a row.
-use Rattle.std.proofs.Common.{◌≡◌, ◌≢◌, ℕ, ◌+◌, ◌<◌, pred, List, length, map, set, Bool, true, false, refl, sym, ap, ◌∙◌, arith, get_or}
-use Rattle.std.specs.Prelude.{slice_get, ◌==◌, nat_lt}
-use Rattle.std.specs.Int.{bit_at}
-use Rattle.std.proofs.lemmas.Bool.{and_from, and_parts, cases_eq}
-use Rattle.std.proofs.lemmas.List.{get_or-set_other, get_or_default}
-use Rattle.std.proofs.lemmas.Nat.Bits.{bit_at-zero}
-use Rattle.std.proofs.lemmas.Option.{get_or_from_slice_get, slice_get-get_or, slice_get_within}
-use Rattle.ns_base.specs.declared.rows.MethodNo.{MethodNo}
+use Rattle.std.proofs.Common.{◌≡◌, ◌≢◌, ℕ, ◌+◌, pred, List, length, map, set, Bool, true, false, refl, ◌∙◌, arith, get_or}
+use Rattle.std.proofs.lemmas.List.{get_or-set_other}
 use Rattle.dalvik.specs.declared.ins.Args.{Args}
 use Rattle.dalvik.specs.Calls.{receiver_of}
-use Rattle.app_model.specs.CallGraph.{callees_at}
-use Rattle.app_model.specs.Masks.{in_lock_mask}
 use Rattle.app_model.specs.declared.calls.By.{By}
 use Rattle.app_model.specs.declared.lock_use.LockUse.{LockUse}
 use Rattle.app_model.specs.declared.tag.Tag.{Tag}

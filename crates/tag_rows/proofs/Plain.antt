@@ -1,10 +1,10 @@
 -- Cells whose tags name nothing, and tags that are copied.
-use Rattle.std.proofs.Common.{◌≡◌, ◌≢◌, ℕ, zero, suc, ◌<◌, true, List, refl, sym, ap, ◌∙◌, arith}
-use Rattle.app_model.specs.TagTable.{TagParts, cell_at, cell_count, cell_of, tag_of}
+use Rattle.std.proofs.Common.{◌≡◌, ◌≢◌, ℕ, zero, suc, ◌<◌, true, refl, sym, ap, ◌∙◌, arith}
+use Rattle.app_model.specs.TagTable.{cell_count, cell_of, tag_of}
 use Rattle.app_model.specs.declared.tag.Tag.{Tag}
 use Rattle.app_model.specs.declared.tag.Tag.TheVariants.{Bot}
 use Rattle.app_model.proofs.Cells.{cell_again}
-use Rattle.act_model.specs.Tags.{Under, itself, bot_all, IsJoin}
+use Rattle.act_model.specs.Tags.{itself, bot_all, IsJoin}
 use Rattle.tag_rows.specs.Changes.{is_plain}
 
 pub plain_tag : (cell : ℕ) → cell < 5 → is_plain (tag_of cell) ≡ true

@@ -1,9 +1,7 @@
 use Rattle.std.proofs.Common.{◌≡◌, ◌≢◌, ◌∙◌, sym, ap, refl, true, subst}
 use Rattle.app_model.specs.TagTable.{cell_of, tag_of, with_cell}
-use Rattle.app_model.specs.declared.tag.Tag.{Tag}
 use Rattle.app_model.specs.declared.tag.Tag.TheVariants.{Bot}
 use Rattle.app_model.proofs.Cells.{cell_again, has_cell}
-use Rattle.act_model.specs.Tags.{IsJoin}
 use Rattle.tag_rows.specs.Cells.{Joins, tag_there}
 use Rattle.tag_rows.proofs.Cells.{none_joins, put_joins}
 use Rattle.tag_rows.proofs.Plain.{bot_cell, join_bot, join_same, tags_differ}
