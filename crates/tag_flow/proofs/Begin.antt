@@ -19,13 +19,13 @@ use Rattle.act_model.specs.Tags.{bot_all}
 use Rattle.flow_model.specs.TagFlow.{IsTagTableOf}
 use Rattle.tag_flow.specs.Answers.{HasFew, IsCause}
 use Rattle.tag_flow.specs.declared.fault.TagFault.TheVariants.{Limit}
-use Rattle.tag_flow.specs.Cells.{IsTagOf, tag_there}
+use Rattle.tag_rows.specs.Cells.{IsTagOf, tag_there}
 use Rattle.tag_flow.specs.Known.{IsClosed, IsKnown, KnownParts, is_gone, is_reached, row_width}
 use Rattle.tag_flow.specs.State.{AreRows, IsEmpty, IsState, StateParts}
 use Rattle.tag_flow.specs.Turns.{IsBelow}
-use Rattle.tag_flow.proofs.Fits.{rows_fit}
+use Rattle.tag_rows.proofs.Fits.{rows_fit}
 use Rattle.tag_flow.proofs.Reached.{known_below}
-use Rattle.tag_flow.proofs.Rows.{grown_table}
+use Rattle.tag_rows.proofs.Order.{grown_table}
 
 -- ---- rows of Bot
 pub rows_none : (k : KnownParts) → AreRows k 0 []

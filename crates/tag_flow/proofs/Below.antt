@@ -17,18 +17,19 @@ use Rattle.act_model.specs.declared.act.Act.{Act}
 use Rattle.act_model.specs.declared.act.Act.TheVariants.{Return}
 use Rattle.act_model.specs.declared.act.Returned.{Returned}
 use Rattle.flow_model.specs.TagFlow.{begins, goes_on, back_from_outside, throws, enters, passes_call, comes_back, throws_out, IsLive, answered, is_call, only_result, without_result}
-use Rattle.tag_flow.specs.declared.change.Change.{Change}
+use Rattle.tag_rows.specs.declared.change.Change.{Change}
 use Rattle.tag_flow.specs.declared.known.Spot.{Spot}
 use Rattle.tag_flow.specs.declared.calling.Handing.{Handing}
 use Rattle.tag_flow.specs.declared.passing.Step.{Step}
-use Rattle.tag_flow.specs.Cells.{Grows, IsTagOf, Joins, room, tag_there}
+use Rattle.tag_rows.specs.Cells.{Grows, IsTagOf, Joins, room, tag_there}
 use Rattle.tag_flow.specs.Known.{Flows, IsClosed, KnownParts, is_gone, registers_of, row_width}
 use Rattle.tag_flow.specs.State.{IsSource, IsSpot, IsState, StateParts, answer_of, row_of, state_room}
-use Rattle.tag_flow.specs.Turns.{AreAnswersUnder, Begins, Enters, IsBelow, IsStep, IsUnion, Leads, leads_after, leads_thrown, leads_past, leads_out, Turn, changed}
+use Rattle.tag_flow.specs.Turns.{AreAnswersUnder, Begins, Enters, IsBelow, IsStep, IsUnion, Leads, leads_after, leads_thrown, leads_past, leads_out, Turn}
+use Rattle.tag_rows.specs.Changes.{changed}
 use Rattle.tag_flow.specs.Goals.{AnswerAt, CellUnder, GaveBack, begun_row, entering_row, row_after}
-use Rattle.tag_flow.proofs.Cells.{joins_least}
-use Rattle.tag_flow.proofs.Monotone.{answered_under, map_tag, monotone}
-use Rattle.tag_flow.proofs.Rows.{grown_table, grown_rows, grows_same, live_under, tag_under, under_trans}
+use Rattle.tag_rows.proofs.Cells.{joins_least}
+use Rattle.tag_rows.proofs.Monotone.{answered_under, map_tag, monotone}
+use Rattle.tag_rows.proofs.Order.{grown_table, grown_rows, grows_same, live_under, tag_under, under_trans}
 use Rattle.tag_flow.proofs.Reached.{entry_callback}
 
 -- ---- a mask of all callees says of each tag what some callee does

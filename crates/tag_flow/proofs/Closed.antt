@@ -28,10 +28,10 @@ use Rattle.tag_flow.specs.Known.{Flows, IsClosed, IsKnown, KnownParts, is_gone, 
 use Rattle.tag_flow.specs.State.{IsState, StateParts, state_room}
 use Rattle.tag_flow.specs.Turns.{IsBelow, Turn}
 use Rattle.tag_flow.specs.Goals.{AllVisited, IsVisited}
-use Rattle.tag_flow.proofs.Acts.{act_there, act_within, method_within}
-use Rattle.tag_flow.proofs.Monotone.{map_tag}
+use Rattle.tag_rows.proofs.Acts.{act_there, act_within, method_within}
+use Rattle.tag_rows.proofs.Monotone.{map_tag}
 use Rattle.tag_flow.proofs.Reached.{callback_entry}
-use Rattle.tag_flow.proofs.Rows.{grown_table, under_trans}
+use Rattle.tag_rows.proofs.Order.{grown_table, under_trans}
 
 -- a turn falls, or it is the last one
 pub turn_falls : (k : KnownParts) (goal : StateParts → Type 0) (a b : StateParts) (x : Bool) → Turn k goal a b x → 2 * state_room b + cond x 1 0 < 2 * state_room a + 1

@@ -10,11 +10,11 @@ use Rattle.app_model.specs.declared.tag.Tag.TheVariants.{Zero}
 use Rattle.act_model.specs.Changes.{tag_in}
 use Rattle.act_model.specs.Entries.{call_words, callback_row, entry_row}
 use Rattle.flow_model.specs.TagFlow.{callee_row}
-use Rattle.tag_flow.specs.Cells.{IsTagOf}
+use Rattle.tag_rows.specs.Cells.{IsTagOf}
 use Rattle.tag_flow.specs.Known.{KnownParts}
 use Rattle.tag_flow.specs.State.{IsState, StateParts}
 use Rattle.tag_flow.specs.Goals.{begun_row, entering_row}
-use Rattle.tag_flow.proofs.Fits.{begun_fits, call_words_fit, callee_fits, rows_fit}
+use Rattle.tag_rows.proofs.Fits.{begun_fits, call_words_fit, callee_fits, rows_fit}
 
 module _ (k : KnownParts) (s : StateParts) (state : IsState k s) where
   pub entering_is : (m i n : ℕ) (how : By) (arguments : Args) (method : MethodRow) (r : ℕ) (tag : Tag) → slice_get k.app.methods n ≡ Some method

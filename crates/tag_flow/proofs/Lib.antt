@@ -1,16 +1,10 @@
-pub mod Rows
-pub mod Monotone
-pub mod Cells
 pub mod Turns
-pub mod Acts
 pub mod Fits
 pub mod Reached
 pub mod Below
 pub mod Closed
 pub mod Begin
-pub mod Numbered
 pub mod Loops
-pub mod Words
 pub mod Masks
 pub mod Spots
 pub mod Settled

@@ -11,9 +11,9 @@ use Rattle.flow_model.proofs.TestLaws.{none_after, none_some}
 use Rattle.tag_flow.specs.Known.{KnownParts}
 use Rattle.tag_flow.specs.State.{StateParts}
 use Rattle.tag_flow.specs.Turns.{Leads, leads_after, leads_thrown, leads_past, leads_out, Turn}
-use Rattle.tag_flow.specs.declared.change.Change.{Change}
+use Rattle.tag_rows.specs.declared.change.Change.{Change}
 use Rattle.tag_flow.specs.Goals.{Below}
-use Rattle.tag_flow.proofs.Acts.{method_within}
+use Rattle.tag_rows.proofs.Acts.{method_within}
 use Rattle.tag_flow.proofs.Turns.{turn_all, turn_as}
 
 place_sound : (app : AppParts) (m i : ℕ) (place : Place) → IsSoundApp app → i < code_len app m → place_at app m i ≡ Some place → (registers : ℕ) × IsSoundPlace registers (code_len app m) place

@@ -1,27 +1,17 @@
--- The union of the masks of callees, and what changes keep of a row.
-use Rattle.std.proofs.Common.{◌≡◌, ◌≢◌, ℕ, ◌+◌, ◌<◌, ◌≤◌, pred, List, length, set, Bool, true, false, Some, sym, ap, ◌∙◌, subst, ⊎_elim, arith, Contains, get_or, bit_or, eq-eqb, eqb-true}
+-- The union of the masks of callees.
+use Rattle.std.proofs.Common.{◌≡◌, ℕ, ◌+◌, ◌<◌, ◌≤◌, List, length, true, Some, sym, ap, ◌∙◌, subst, ⊎_elim, arith, Contains, get_or, bit_or, eq-eqb, eqb-true}
 use Rattle.std.specs.Prelude.{slice_get, ◌==◌, nat_lt}
 use Rattle.std.specs.Int.{bit_at}
 use Rattle.std.proofs.lemmas.Bool.{and_from, and_parts, cases_eq}
-use Rattle.std.proofs.lemmas.List.{get_or-set_other, get_or_default}
+use Rattle.std.proofs.lemmas.List.{get_or_default}
 use Rattle.std.proofs.lemmas.Nat.Bits.{bit_at-zero}
 use Rattle.std.proofs.lemmas.Option.{get_or_from_slice_get, slice_get-get_or, slice_get_within}
 use Rattle.ns_base.specs.declared.rows.MethodNo.{MethodNo}
-use Rattle.dalvik.specs.declared.ins.Args.{Args}
-use Rattle.dalvik.specs.Calls.{receiver_of}
 use Rattle.app_model.specs.CallGraph.{callees_at}
 use Rattle.app_model.specs.Masks.{in_lock_mask}
-use Rattle.app_model.specs.declared.calls.By.{By}
-use Rattle.app_model.specs.declared.lock_use.LockUse.{LockUse}
-use Rattle.app_model.specs.declared.tag.Tag.{Tag}
-use Rattle.app_model.specs.declared.tag.Tag.TheVariants.{Bot}
-use Rattle.act_model.specs.declared.act.Act.TheVariants.{Call}
-use Rattle.act_model.specs.declared.act.Gives.{Gives}
-use Rattle.act_model.specs.Changes.{after, call_change, put, result_cell, tag_in, thrown}
 use Rattle.call_reach.proofs.Bits.{or_bit, or_left, or_right}
 use Rattle.tag_flow.specs.Known.{KnownParts, is_gone}
 use Rattle.tag_flow.specs.Turns.{IsUnion}
-use Rattle.tag_flow.proofs.Monotone.{map_tag}
 
 -- ---- the masks of the first callees
 pub record IsPart (k : KnownParts) (callees : List MethodNo) (bound gone : ℕ) : Type 0 where
@@ -70,22 +60,3 @@ part_whole k m i gone bound callees is some_one end part = part_union
 
         same_default : get_or callees 0 (get_or callees 0 first) ≡ get_or callees 0 first
         same_default = get_or_default callees 0 (get_or callees 0 first) first some_one
-
--- ---- what is kept
-pub put_kept : {A : Type 0} (wide : Bool) (row : List A) (to r : ℕ) (a b d : A) → r ≢ to → r ≢ to + 1 → get_or (put wide row to a b) r d ≡ get_or row r d
-put_kept true row to r a b d ne next = get_or-set_other (set row to a) (to + 1) r b d next ∙ get_or-set_other row to r a d ne
-put_kept false row to r a b d ne next = get_or-set_other row to r a d ne
-
--- a call that changes no tag of a register
-pub thrown_kept : (how : By) (usage : LockUse) (arguments : Args) (gives : Gives) (row : List Tag) (r : ℕ) → ((receiver tag : Tag) → call_change usage receiver tag ≡ tag)
-    → tag_in (thrown (Call how usage arguments gives) row) r ≡ tag_in row r
-thrown_kept how usage arguments gives row r same =
-    let receiver = tag_in row (receiver_of arguments) in
-    map_tag (call_change usage receiver) row r (same receiver Bot) ∙ same receiver (tag_in row r)
-
-pub call_kept : (site : ℕ) (how : By) (usage : LockUse) (arguments : Args) (gives : Gives) (row : List Tag) (r last : ℕ) → ((receiver tag : Tag) → call_change usage receiver tag ≡ tag) → length row ≡ last + 1 → r ≢ last
-    → tag_in (after site (Call how usage arguments gives) row) r ≡ tag_in row r
-call_kept site how usage arguments gives row r last same len ne =
-    let at : pred (length row) ≡ last = omega (arith, len) in
-    get_or-set_other (thrown (Call how usage arguments gives) row) (result_cell row) r _ Bot (λ e. ne (e ∙ at))
-    ∙ thrown_kept how usage arguments gives row r same

@@ -15,7 +15,7 @@ use Rattle.act_model.specs.declared.act.Gives.{Gives}
 use Rattle.act_model.specs.declared.act.Returned.{Returned}
 use Rattle.flow_model.specs.TagFlow.{is_call, leads_on}
 use Rattle.tag_flow.specs.declared.calling.Handing.{Handing}
-use Rattle.tag_flow.specs.declared.change.Change.TheVariants.{After}
+use Rattle.tag_rows.specs.declared.change.Change.TheVariants.{After}
 use Rattle.tag_flow.specs.Known.{KnownParts}
 use Rattle.tag_flow.specs.State.{StateParts}
 use Rattle.tag_flow.specs.Turns.{IsSite, Turn, goes_by_itself, handing_of, returned_of}

@@ -26,9 +26,10 @@ use Rattle.call_reach.specs.Starts.{AreAssigned, AreReached}
 use Rattle.call_reach.proofs.Adding.{callee_within, user_within}
 use Rattle.call_reach.proofs.Reached.{set_by_callee}
 use Rattle.flow_model.specs.TagFlow.{TellsReached, TellsStores}
-use Rattle.tag_flow.specs.Known.{AreSites, IsKnown, KnownParts, chosen, is_reached}
-use Rattle.tag_flow.specs.declared.sites.Site.{Site}
-use Rattle.tag_flow.proofs.Acts.{method_within, nearest_below, slot_below}
+use Rattle.tag_flow.specs.Known.{IsKnown, KnownParts, chosen, is_reached}
+use Rattle.tag_rows.specs.Sites.{AreSites}
+use Rattle.tag_rows.specs.declared.sites.Site.{Site}
+use Rattle.tag_rows.proofs.Acts.{method_within, nearest_below, slot_below}
 
 abbrev method_no : ℕ → MethodNo
 method_no m = record { 0 = m }

@@ -3,8 +3,9 @@ use Rattle.std.proofs.Common.{◌≡◌, ℕ, ◌+◌, ◌*◌, ◌<◌, ◌≤�
 use Rattle.std.specs.Prelude.{slice_get}
 use Rattle.std.proofs.lemmas.Bool.{cases_lt}
 use Rattle.std.proofs.lemmas.List.{get_or-map}
+use Rattle.std.proofs.lemmas.Nat.{row_fits}
 use Rattle.std.proofs.lemmas.Option.{get_or_from_slice_get, slice_get_within}
-use Rattle.app_model.specs.TagTable.{cell_at, tag_at, tag_of, width_at}
+use Rattle.app_model.specs.TagTable.{width_at}
 use Rattle.app_model.specs.Words.{code_len}
 use Rattle.app_model.specs.declared.rows.MethodRow.{MethodRow}
 use Rattle.app_model.specs.declared.tag.Tag.TheVariants.{Bot}
@@ -12,7 +13,7 @@ use Rattle.app_model.proofs.Cells.{length-row_at, tag_past, tag_within}
 use Rattle.act_model.specs.Changes.{tag_in}
 use Rattle.flow_model.specs.TagFlow.{IsLive}
 use Rattle.tag_flow.specs.declared.known.Spot.{Spot}
-use Rattle.tag_flow.specs.Cells.{cells_len}
+use Rattle.tag_rows.specs.Cells.{cells_len, tag_there}
 use Rattle.tag_flow.specs.Known.{IsKnown, KnownParts, row_width}
 use Rattle.tag_flow.specs.State.{IsSpot, IsState, StateParts, row_of}
 
@@ -34,17 +35,16 @@ not_live k s spot n state is past none live = live.is (⊎_elim
     (λ le. tag_past s.table spot.method.0 spot.index live.register (let w = table_width k s spot.method.0 state in let v = is.width in omega (arith, le, past, w, v)))
     (cases_lt live.register n))
 
--- cells that are the same have the same tag
-pub same_tags : (k : KnownParts) (s : StateParts) (from to : Spot) (r : ℕ) → IsState k s → IsSpot k from → r < from.width → to.width ≡ from.width
-    → cell_at s.table from.method.0 (from.index * from.width + r) ≡ cell_at s.table from.method.0 (to.index * to.width + r)
-    → tag_at s.table from.method.0 from.index r ≡ tag_at s.table from.method.0 to.index r
-same_tags k s from to r state is lt width same =
-    let w : width_at s.table from.method.0 ≡ from.width = table_width k s from.method.0 state ∙ sym is.width in
-    let inside : r < width_at s.table from.method.0 = omega (arith, lt, w) in
-    tag_within s.table from.method.0 from.index r inside
-    ∙ ap (λ n. tag_of (cell_at s.table from.method.0 (from.index * n + r))) w
-    ∙ ap tag_of (same ∙ ap (λ n. cell_at s.table from.method.0 (to.index * n + r)) (width ∙ sym w))
-    ∙ sym (tag_within s.table from.method.0 to.index r inside)
+-- the place of a cell, and its tag
+pub place_within : (k : KnownParts) (s : StateParts) (spot : Spot) (r : ℕ) → IsState k s → IsSpot k spot → r < spot.width → spot.index * spot.width + r < cells_len s.table spot.method.0
+place_within k s spot r state is lt =
+    let fits = row_fits spot.index spot.width (code_len k.app spot.method.0) spot.width is.index (omega arith) in
+    rw (cells_there k s spot state is) (omega (arith, fits, lt))
+
+pub place_tag : (k : KnownParts) (s : StateParts) (spot : Spot) (r : ℕ) → IsState k s → IsSpot k spot → r < spot.width → tag_in (row_of s spot) r ≡ tag_there s.table spot.method.0 (spot.index * spot.width + r)
+place_tag k s spot r state is lt =
+    let w : width_at s.table spot.method.0 ≡ spot.width = table_width k s spot.method.0 state ∙ sym is.width in
+    tag_within s.table spot.method.0 spot.index r (omega (arith, lt, w)) ∙ ap (λ n. tag_there s.table spot.method.0 (spot.index * n + r)) w
 
 -- the row at the entry of a method has its registers
 pub method_fits : (k : KnownParts) (known : IsKnown k) (m : ℕ) (method : MethodRow) → slice_get k.app.methods m ≡ Some method → (method.ins ≤ method.registers) × (row_width k.app m ≡ method.registers + 1)

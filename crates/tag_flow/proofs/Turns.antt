@@ -8,7 +8,7 @@ use Rattle.tag_flow.specs.declared.passing.Step.{Step}
 use Rattle.tag_flow.specs.State.{IsSource, StateParts, state_room}
 use Rattle.tag_flow.specs.Turns.{Holds, IsStep, Turn}
 use Rattle.tag_flow.specs.Goals.{Below}
-use Rattle.tag_flow.proofs.Rows.{grows_same, grows_trans, live_grown}
+use Rattle.tag_rows.proofs.Order.{grows_same, grows_trans, live_grown}
 
 module _ (k : KnownParts) where
   pub turn_none : (goal : StateParts → Type 0) (s : StateParts) → goal s → Turn k goal s s false

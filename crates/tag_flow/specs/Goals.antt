@@ -19,11 +19,12 @@ use Rattle.act_model.specs.declared.act.Act.TheVariants.{Return, Call}
 use Rattle.act_model.specs.declared.act.Gives.{Gives}
 use Rattle.act_model.specs.declared.act.Returned.{Returned}
 use Rattle.flow_model.specs.TagFlow.{IsLive, answered, callee_row, can_throw, is_call, leads_on}
-use Rattle.tag_flow.specs.declared.change.Change.{Change}
-use Rattle.tag_flow.specs.declared.change.Change.TheVariants.{After, Thrown, Past, Out}
+use Rattle.tag_rows.specs.declared.change.Change.{Change}
+use Rattle.tag_rows.specs.declared.change.Change.TheVariants.{After, Thrown, Past, Out}
 use Rattle.tag_flow.specs.Known.{KnownParts, is_reached, row_width}
 use Rattle.tag_flow.specs.State.{StateParts, answer_of}
-use Rattle.tag_flow.specs.Turns.{IsUnion, changed}
+use Rattle.tag_flow.specs.Turns.{IsUnion}
+use Rattle.tag_rows.specs.Changes.{changed}
 
 -- for each number below a bound
 abbrev pub Below : (ℕ → StateParts → Type 0) → (bound : ℕ) → StateParts → Type 0

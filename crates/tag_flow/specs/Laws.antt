@@ -1,17 +1,12 @@
 -- What holds of all flows of tags.
-use Rattle.std.specs.Prelude.{ℕ, ◌≡◌, Bool, List, [], ◌∷◌}
+use Rattle.std.specs.Prelude.{ℕ, ◌≡◌, Bool, List}
 use Rattle.app_model.specs.CallGraph.{GraphParts}
 use Rattle.app_model.specs.Components.{ComponentParts}
 use Rattle.app_model.specs.Parts.{AppParts}
 use Rattle.app_model.specs.TagTable.{TagParts}
 use Rattle.app_model.specs.declared.tag.Tag.{Tag}
-use Rattle.act_model.specs.Tags.{Under}
 use Rattle.flow_model.specs.TagFlow.{Flow, TableUnder}
-
--- two rows of one length, tag by tag
-pub data RowUnder : List Tag → List Tag → Type 0 where
-  nil : RowUnder [] []
-  more : {a b : Tag} {low high : List Tag} → Under a b → RowUnder low high → RowUnder (a ∷ low) (b ∷ high)
+use Rattle.tag_rows.specs.Order.{RowUnder}
 
 -- what flows in a table flows in each table above it, as a row above
 abbrev pub FlowLaw : Type 0

@@ -5,7 +5,7 @@ use Rattle.app_model.specs.Words.{code_len}
 use Rattle.app_model.specs.declared.tag.Tag.{Tag}
 use Rattle.flow_model.specs.TagFlow.{IsLive}
 use Rattle.tag_flow.specs.declared.known.Spot.{Spot}
-use Rattle.tag_flow.specs.Cells.{AreTagsOf, cells_len, room, tag_there}
+use Rattle.tag_rows.specs.Cells.{AreTagsOf, cells_len, room, tag_there}
 use Rattle.tag_flow.specs.Known.{KnownParts, is_reached, registers_of, row_width}
 
 -- the second table has one row: a cell for each method
@@ -26,12 +26,13 @@ pub record IsState (k : KnownParts) (s : StateParts) : Type 0 where
   pub tags : AreTagsOf (length k.app.locks) s.table
   pub answer_tags : AreTagsOf (length k.app.locks) s.answers
 
--- an instruction of a method that is reached, with the width of its row
+-- an instruction of a method that is reached, with the width and the start of its row
 pub record IsSpot (k : KnownParts) (spot : Spot) : Type 0 where
   pub reached : is_reached k spot.method.0 ≡ true
   pub index : spot.index < code_len k.app spot.method.0
   pub width : spot.width ≡ row_width k.app spot.method.0
   pub narrow : spot.width ≤ 2 ^ 16
+  pub start : spot.start ≡ spot.index * spot.width
 
 abbrev pub row_of : StateParts → Spot → List Tag
 row_of s spot = row_at s.table spot.method.0 spot.index

@@ -1,42 +1,31 @@
 -- What a part of the work does to the table.
-use Rattle.std.specs.Prelude.{ℕ, ◌≡◌, ◌≢◌, ◌<◌, ◌≤◌, Bool, true, false, ◌&&◌, ◌||◌, not, List, length, Option, Some, None, Contains}
+use Rattle.std.specs.Prelude.{ℕ, ◌≡◌, ◌<◌, ◌≤◌, Bool, true, false, ◌&&◌, ◌||◌, not, List, Option, Some, None, Contains}
 use Rattle.app_model.specs.CallGraph.{callees_at, outside_at}
 use Rattle.app_model.specs.Components.{entries_of}
 use Rattle.app_model.specs.Masks.{in_lock_mask}
-use Rattle.app_model.specs.Sites.{is_make, site_at}
+use Rattle.app_model.specs.Sites.{site_at}
 use Rattle.app_model.specs.TagTable.{TagParts, row_at}
 use Rattle.app_model.specs.Words.{handler_at, successor_at}
 use Rattle.app_model.specs.declared.tag.Tag.{Tag}
 use Rattle.ns_base.specs.declared.rows.MethodNo.{MethodNo}
 use Rattle.act_model.specs.Acts.{act_at}
-use Rattle.act_model.specs.Changes.{after, called, tag_in, thrown}
+use Rattle.act_model.specs.Changes.{after}
 use Rattle.act_model.specs.Tags.{Under}
 use Rattle.act_model.specs.declared.act.Act.{Act}
 use Rattle.act_model.specs.declared.act.Act.TheVariants.{Return, Call}
 use Rattle.act_model.specs.declared.act.Gives.{Gives}
 use Rattle.act_model.specs.declared.act.Returned.{Returned}
 use Rattle.app_model.specs.declared.lock_use.LockUse.{LockUse}
-use Rattle.flow_model.specs.TagFlow.{IsLive, answered, can_throw, is_call, leads_on, without_result}
+use Rattle.flow_model.specs.TagFlow.{IsLive, answered, can_throw, is_call, leads_on}
 use Rattle.tag_flow.specs.declared.calling.Handing.{Handing}
 use Rattle.tag_flow.specs.declared.known.Spot.{Spot}
-use Rattle.tag_flow.specs.declared.change.Change.{Change}
-use Rattle.tag_flow.specs.declared.change.Change.TheVariants.{After, Thrown, Past, Out}
-use Rattle.tag_flow.specs.declared.change.Kept.{Kept}
+use Rattle.tag_rows.specs.declared.change.Change.{Change}
+use Rattle.tag_rows.specs.declared.change.Change.TheVariants.{After, Thrown, Past, Out}
 use Rattle.tag_flow.specs.declared.passing.Step.{Step}
-use Rattle.tag_flow.specs.Cells.{Grows}
+use Rattle.tag_rows.specs.Changes.{Keeps}
+use Rattle.tag_rows.specs.Cells.{Grows}
 use Rattle.tag_flow.specs.Known.{IsClosed, KnownParts, is_gone}
 use Rattle.tag_flow.specs.State.{IsSource, IsSpot, IsState, StateParts, answer_of, state_room}
-
--- ---- what a change leaves of a row
-abbrev pub changed : Change → List Tag → List Tag
-changed (After site a) row = after site a row
-changed (Thrown a) row = thrown a row
-changed (Past gone) row = without_result (called (in_lock_mask gone) row)
-changed (Out gone) row = called (in_lock_mask gone) row
-
--- all cells but these two are as before
-abbrev pub Keeps : Change → (width : ℕ) → Kept → Type 0
-Keeps change width kept = (row : List Tag) (r : ℕ) → length row ≡ width → r ≢ kept.first → r ≢ kept.second → tag_in (changed change row) r ≡ tag_in row r
 
 -- a mask of the lock fields to which the reach of some callee stores, where there is a callee
 pub record IsUnion (k : KnownParts) (m i gone : ℕ) : Type 0 where
@@ -61,7 +50,7 @@ pub record IsStep (k : KnownParts) (s : StateParts) (step : Step) : Type 0 where
   pub to : IsSpot k step.to
   pub method : step.to.method ≡ step.from.method
   pub leads : Leads k step.from.method.0 step.from.index step.to.index step.change
-  pub kept : (kept : Kept) → step.kept ≡ Some kept → Keeps step.change step.from.width kept
+  pub kept : Keeps step.change step.from.width step.kept
 
 -- the first instruction of a callee, and of a callback
 pub record Enters (k : KnownParts) (from : Spot) (handing : Handing) (to : Spot) : Type 0 where
@@ -78,11 +67,6 @@ pub record Begins (k : KnownParts) (to : Spot) : Type 0 where
 -- an act leads on by itself; a call where it leads outside
 abbrev pub goes_by_itself : Act → (outside : Bool) → Bool
 goes_by_itself a outside = leads_on a && (not (is_call a) || outside)
-
--- whether a call makes a lock
-abbrev pub makes_lock : Act → Bool
-makes_lock (Call how usage arguments gives) = is_make usage
-makes_lock a = false
 
 -- how a call hands its arguments on, and what a return answers
 abbrev pub handing_of : Act → Option Handing

@@ -22,6 +22,7 @@ use app_model::{App, CallGraph, ComponentTable, TagTable};
 use class_graph::ClassGraph;
 use ns_base::{Counted, MethodNo, OutOfMemory, limit};
 use std::alloc::{AllocError, Global};
+use tag_rows::Rows;
 
 // Whether the table has no more cells than are allowed.
 fn is_small(known: &Known) -> bool
@@ -66,23 +67,23 @@ fn registers(alloc: Global, app: &App) -> Result<Vec<u32>, AllocError>
 }
 
 // One row, with a cell for each method.
-fn make_answers(alloc: Global, methods: u32) -> Result<TagTable, AllocError>
-    ensures { IfOk result (λ table. table ≡ record { registers = 0 ∷ []; cells = replicate methods 0 ∷ [] }) }
+fn make_answers(alloc: Global, methods: u32) -> Result<Rows, AllocError>
+    ensures { IfOk result (λ rows. rows ≡ record { registers = 0 ∷ []; cells = replicate methods 0 ∷ [] }) }
 {
     let mut registers = Vec::new(alloc);
     registers.push(0)?;
     let mut rows = Vec::new(alloc);
     let cells = empty_cells(alloc, methods as usize)?;
     rows.push(cells)?;
-    Ok(TagTable::new(registers, rows))
+    Ok(Rows::new(registers, rows))
 }
 
-fn make_table(alloc: Global, known: &Known) -> Result<TagTable, AllocError>
+fn make_table(alloc: Global, known: &Known) -> Result<Rows, AllocError>
     ensures { IfOk result (IsEmpty known.now) }
 {
     let registers = registers(alloc, known.app)?;
     let rows = make_rows(alloc, known)?;
-    Ok(TagTable::new(registers, rows))
+    Ok(Rows::new(registers, rows))
 }
 
 fn begin(alloc: Global, known: &Known) -> Result<State, AllocError>

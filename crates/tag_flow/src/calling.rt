@@ -9,8 +9,6 @@ ghost use Rattle.tag_flow.specs.State.{IsSource, IsSpot, row_of};
 ghost use Rattle.tag_flow.specs.Turns.{Enters, IsUnion, Turn, handing_of, returned_of};
 ghost use Rattle.tag_flow.specs.Goals.{AnswerAt, Below, CallPassed, CalleeDone, CalleeNoDone, CameBack, Called, CellUnder, Entered, GaveBack, RowPassed, entering_row};
 
-use crate::change::Change;
-use crate::entering::{called_tag, entering};
 use crate::known::{Known, Spot};
 use crate::passing::{to_handlers, to_successors};
 use crate::state::State;
@@ -18,6 +16,7 @@ use act_model::{Act, Returned, Row};
 use app_model::{By, Tag};
 use dalvik::Args;
 use ns_base::MethodNo;
+use tag_rows::{Change, called_tag, entering};
 
 /// How a call hands its arguments on.
 #[derive(Clone, Copy)]
@@ -62,7 +61,7 @@ fn enter_cell(
     state.join(known, to, register, tag)
 }
 
-fn enter_row(known: &Known, state: &mut State, from: Spot, handing: Handing, to: Spot) -> bool
+fn enter_cells(known: &Known, state: &mut State, from: Spot, handing: Handing, to: Spot) -> bool
     requires source { IsSource known.now state.old from }
     requires enters { Enters known.now from handing to }
     ensures { Turn known.now (RowPassed known.now to.method.0 0 (entering_row known.now from.method.0 from.index to.method.0 handing.by handing.args)) state.old state.new result }
@@ -71,6 +70,16 @@ fn enter_row(known: &Known, state: &mut State, from: Spot, handing: Handing, to:
     for register in 0..to.width {
         changed |= enter_cell(known, state, from, handing, to, register);
     }
+    changed
+}
+
+fn enter_row(known: &Known, state: &mut State, from: Spot, handing: Handing, to: Spot) -> bool
+    requires source { IsSource known.now state.old from }
+    requires enters { Enters known.now from handing to }
+    ensures { Turn known.now (RowPassed known.now to.method.0 0 (entering_row known.now from.method.0 from.index to.method.0 handing.by handing.args)) state.old state.new result }
+{
+    let changed = enter_cells(known, state, from, handing, to);
+    state.note(to, changed);
     changed
 }
 
@@ -103,7 +112,9 @@ fn come_back_to(known: &Known, state: &mut State, from: Spot, to: u32, callee: M
     known.told();
     let to = known.spot(from.method, to);
     let tag = state.answer(known, callee);
-    state.join(known, to, to.width - 1, tag)
+    let changed = state.join(known, to, to.width - 1, tag);
+    state.note(to, changed);
+    changed
 }
 
 fn come_back(known: &Known, state: &mut State, from: Spot, callee: MethodNo) -> bool

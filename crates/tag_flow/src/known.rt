@@ -9,22 +9,25 @@ ghost use Rattle.app_model.specs.Words.{code_len, handler_at, successor_at};
 ghost use Rattle.act_model.specs.Acts.{act_at};
 ghost use Rattle.tag_flow.specs.Known.{IsKnown, chosen, is_reached, row_width};
 ghost use Rattle.tag_flow.specs.State.{IsSpot};
-ghost use Rattle.tag_flow.specs.Turns.{IsSite, IsUnion, makes_lock};
+ghost use Rattle.tag_flow.specs.Turns.{IsSite, IsUnion};
+ghost use Rattle.tag_rows.specs.Changes.{makes_lock};
 
-use crate::sites::{Site, find_sites, is_make, site_of};
 use act_model::{Act, act_of};
 use app_model::{App, CallGraph, ComponentTable, MethodRow};
 use call_reach::{assigns, reach};
 use ns_base::{MethodNo, OutOfMemory};
 use std::alloc::{AllocError, Global};
 use std::marker::Model;
+use tag_rows::{Site, find_sites, makes_lock, site_of};
 
-/// An instruction of a method that is reached; `width` is the number of cells of its row.
+/// An instruction of a method that is reached; `width` is the number of cells of its row, and `start` the place of the
+/// first of them among the method's cells.
 #[derive(Clone, Copy)]
 pub(crate) struct Spot {
     pub method: MethodNo,
     pub index: u32,
     pub width: usize,
+    pub start: usize,
 }
 
 /// An application, a mark for each method that is reached, a mask for each method of the lock fields to which its reach
@@ -48,15 +51,6 @@ impl<'a> Model for Known<'a> {
     ghost view = { λ k. record { app = k.app.now; graph = k.graph.now; list = k.list.now; entries = k.entries.items; reached = k.reached.items; masks = k.masks.items; sites = k.sites.items } };
 
     ghost invariant = { λ k. IsKnown (record { app = k.app.now; graph = k.graph.now; list = k.list.now; entries = k.entries.items; reached = k.reached.items; masks = k.masks.items; sites = k.sites.items }) };
-}
-
-fn makes_lock(act: &Act) -> bool
-    ensures { result ≡ makes_lock act.now }
-{
-    match *act {
-        Act::Call { usage, .. } => is_make(usage),
-        _ => false,
-    }
 }
 
 fn add_entry(entry: Option<MethodNo>, entries: &mut Vec<MethodNo>) -> Result<(), AllocError>
@@ -178,10 +172,12 @@ impl<'a> Known<'a> {
         ensures index { result.index ≡ index }
     {
         self.told();
+        let width = self.width(method);
         Spot {
             method,
             index,
-            width: self.width(method),
+            width,
+            start: index as usize * width,
         }
     }
 

@@ -1,13 +1,14 @@
 //! What flows from an instruction to its successors and handlers.
-ghost use Rattle.std.specs.Prelude.{ℕ, ◌≡◌, ◌<◌, true, IfOk, Some};
+ghost use Rattle.std.specs.Prelude.{ℕ, ◌≡◌, ◌<◌, true, Some};
 ghost use Rattle.app_model.specs.Words.{handler_at, successor_at};
-ghost use Rattle.tag_flow.specs.State.{IsSource, IsState};
+ghost use Rattle.act_model.specs.Changes.{tag_in};
+ghost use Rattle.tag_flow.specs.State.{IsSource, IsState, row_of};
 ghost use Rattle.tag_flow.specs.Turns.{IsStep, Leads, Turn};
 ghost use Rattle.tag_flow.specs.Goals.{AllHandled, AllSucceeded, CellUnder, Handled, RowPassed, Succeeded, row_after};
 
-use crate::change::{Change, Kept, change_tag, kept_by};
 use crate::known::{Known, Spot};
 use crate::state::State;
+use tag_rows::{Change, Kept, change_tag, kept_by};
 
 /// A change that flows from an instruction to another one of its method.
 #[derive(Clone, Copy)]
@@ -15,22 +16,34 @@ pub(crate) struct Step {
     pub from: Spot,
     pub to: Spot,
     pub change: Change,
-    pub kept: Option<Kept>,
+    pub kept: Kept,
 }
 
-// Whether a register is kept, and has the same cell on both sides.
-fn is_settled(known: &Known, state: &State, step: &Step, register: usize) -> bool
+// Whether the change keeps a register's tag.
+fn keeps(known: &Known, state: &State, step: &Step, register: usize) -> bool
     requires step { IsStep known.now state.now step.now }
     requires register { register < step.now.from.width }
-    ensures { result ≡ true → CellUnder known.now step.now.from.method.0 step.now.to.index (row_after step.now.from.method.0 step.now.from.index step.now.change) register state.now }
+    ensures { result ≡ true → tag_in (row_of state.now step.now.from) register ≡ tag_in (row_after step.now.from.method.0 step.now.from.index step.now.change state.now) register }
 {
-    let Some(kept) = step.kept else {
-        return false;
-    };
+    let kept = step.kept;
     if register == kept.first || register == kept.second {
         return false;
     }
-    state.is_same(known, step.from, step.to, register)
+    if !kept.plain {
+        return true;
+    }
+    state.is_plain(known, step.from, register)
+}
+
+// One cell, by its tag.
+fn pass_tag(known: &Known, state: &mut State, step: &Step, register: usize) -> bool
+    requires step { IsStep known.now state.old step.now }
+    requires register { register < step.now.from.width }
+    ensures { Turn known.now (CellUnder known.now step.now.from.method.0 step.now.to.index (row_after step.now.from.method.0 step.now.from.index step.now.change) register) state.old state.new result }
+{
+    known.told();
+    let tag = change_tag(&state.row(step.from), &step.change, register);
+    state.join(known, step.to, register, tag)
 }
 
 fn pass_cell(known: &Known, state: &mut State, step: &Step, register: usize) -> bool
@@ -39,14 +52,13 @@ fn pass_cell(known: &Known, state: &mut State, step: &Step, register: usize) -> 
     ensures { Turn known.now (CellUnder known.now step.now.from.method.0 step.now.to.index (row_after step.now.from.method.0 step.now.from.index step.now.change) register) state.old state.new result }
 {
     known.told();
-    if is_settled(known, state, step, register) {
-        return false;
+    if keeps(known, state, step, register) {
+        return state.join_same(known, step.from, step.to, register);
     }
-    let tag = change_tag(&state.row(step.from), &step.change, register);
-    state.join(known, step.to, register, tag)
+    pass_tag(known, state, step, register)
 }
 
-fn pass_row(known: &Known, state: &mut State, step: &Step) -> bool
+fn pass_cells(known: &Known, state: &mut State, step: &Step) -> bool
     requires step { IsStep known.now state.old step.now }
     ensures { Turn known.now (RowPassed known.now step.now.from.method.0 step.now.to.index (row_after step.now.from.method.0 step.now.from.index step.now.change)) state.old state.new result }
 {
@@ -54,6 +66,15 @@ fn pass_row(known: &Known, state: &mut State, step: &Step) -> bool
     for register in 0..step.from.width {
         changed |= pass_cell(known, state, step, register);
     }
+    changed
+}
+
+fn pass_row(known: &Known, state: &mut State, step: &Step) -> bool
+    requires step { IsStep known.now state.old step.now }
+    ensures { Turn known.now (RowPassed known.now step.now.from.method.0 step.now.to.index (row_after step.now.from.method.0 step.now.from.index step.now.change)) state.old state.new result }
+{
+    let changed = pass_cells(known, state, step);
+    state.note(step.to, changed);
     changed
 }
 

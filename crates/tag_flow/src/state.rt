@@ -1,25 +1,25 @@
 //! The table while it is made, and what the returns of each method gave so far.
 ghost use Rattle.std.specs.Prelude.{◌≡◌, ◌<◌, ◌≤◌, ◌+◌, ◌*◌, ◌^◌, ◌↔◌, true, IsTrue, length};
-ghost use Rattle.app_model.specs.TagTable.{row_at, tag_at};
+ghost use Rattle.act_model.specs.Changes.{tag_in};
 ghost use Rattle.flow_model.specs.TagFlow.{IsLive};
-ghost use Rattle.tag_flow.specs.Cells.{IsTagOf, Joins};
-ghost use Rattle.tag_flow.specs.Known.{is_reached};
+ghost use Rattle.tag_rows.specs.Cells.{IsTagOf, Joins};
+ghost use Rattle.tag_rows.specs.Changes.{is_plain};
 ghost use Rattle.tag_flow.specs.State.{IsSpot, IsState, answer_of, row_of};
 
 use crate::agenda::{Agenda, Place};
-use crate::joining::{is_same_cell, join_cell, tag_there};
 use crate::known::{Known, Spot};
 use act_model::Row;
 use app_model::{Tag, TagTable};
 use ns_base::MethodNo;
 use std::marker::Model;
+use tag_rows::{RowAt, Rows, is_plain_cell};
 
 /// The table, and beside it one of one row, with a cell for each method. The agenda has places worth a look; no
 /// contract speaks of it.
 #[derive(Drop)]
 pub(crate) struct State {
-    table: TagTable,
-    answers: TagTable,
+    rows: Rows,
+    answers: Rows,
     agenda: Agenda,
 }
 
@@ -28,55 +28,26 @@ impl Model for State {
 
     ghost Value = { StateParts };
 
-    ghost view = { λ s. record { table = s.table; answers = s.answers } };
-}
-
-/// The tags before an instruction.
-#[derive(Clone, Copy)]
-pub(crate) struct RowAt<'a> {
-    table: &'a TagTable,
-    method: MethodNo,
-    index: u32,
-}
-
-impl Row for RowAt<'_> {
-    ghost use Rattle.app_model.specs.TagTable as table;
-
-    ghost tags = { λ at. table.row_at at.table.now at.method.0 at.index };
-
-    #[tactic(auto, using(app_model::proofs::Cells::tag_past))]
-    fn tag(&self, register: usize) -> Tag {
-        if register < self.table.width(self.method) {
-            self.table.tag(self.method, self.index, register as u32)
-        } else {
-            Tag::Bot
-        }
-    }
-
-    #[tactic(auto, using(app_model::proofs::Cells::row_at_width))]
-    fn cells(&self) -> usize {
-        self.table.width(self.method)
-    }
+    ghost view = { λ s. record { table = s.rows; answers = s.answers } };
 }
 
 // The place of a cell among those of its method.
-fn place_of(spot: Spot, register: usize, _count: u32) -> usize
-    requires index { spot.index < _count }
+fn place_of(spot: Spot, register: usize) -> usize
+    requires start { spot.start ≡ spot.index * spot.width }
     requires register { register < spot.width }
     requires narrow { spot.width ≤ 2 ^ 16 }
     ensures place { result ≡ spot.index * spot.width + register }
-    ensures within { result < _count * spot.width }
 {
-    spot.index as usize * spot.width + register
+    spot.start + register
 }
 
 impl State {
-    pub fn new(table: TagTable, answers: TagTable, agenda: Agenda) -> State
-        ensures table { result.table ≡ table }
+    pub fn new(rows: Rows, answers: Rows, agenda: Agenda) -> State
+        ensures table { result.table ≡ rows }
         ensures answers { result.answers ≡ answers }
     {
         State {
-            table,
+            rows,
             answers,
             agenda,
         }
@@ -85,17 +56,17 @@ impl State {
     pub fn into_table(self) -> TagTable
         ensures { result ≡ self.table }
     {
-        self.table
+        self.rows.into_table()
     }
 
     /// The tags before an instruction.
     pub fn row(&self, spot: Spot) -> RowAt<'_>
-        ensures table { result.table.now ≡ self.now.table }
+        ensures table { result.rows.now ≡ self.now.table }
         ensures method { result.method ≡ spot.method }
         ensures index { result.index ≡ spot.index }
     {
         RowAt {
-            table: &self.table,
+            rows: &self.rows,
             method: spot.method,
             index: spot.index,
         }
@@ -116,22 +87,15 @@ impl State {
         false
     }
 
-    /// Whether a register has the same cell before two instructions of a method.
-    pub fn is_same(&self, known: &Known, from: Spot, to: Spot, register: usize) -> bool
+    /// Whether a register has a plain tag before an instruction.
+    pub fn is_plain(&self, known: &Known, spot: Spot, register: usize) -> bool
         requires state { IsState known.now self.now }
-        requires from { IsSpot known.now from }
-        requires to { IsSpot known.now to }
-        requires method { to.method ≡ from.method }
-        requires register { register < from.width }
-        ensures { result ≡ true → tag_at self.now.table from.method.0 from.index register ≡ tag_at self.now.table from.method.0 to.index register }
+        requires spot { IsSpot known.now spot }
+        requires register { register < spot.width }
+        ensures { result ≡ true → is_plain (tag_in (row_of self.now spot) register) ≡ true }
     {
-        let count = known.app.code_len(from.method);
-        is_same_cell(
-            &self.table,
-            from.method,
-            place_of(from, register, count),
-            place_of(to, register, count),
-        )
+        known.told();
+        is_plain_cell(self.rows.cell(spot.method, place_of(spot, register)))
     }
 
     /// Joins a tag into the cell of a register before an instruction.
@@ -143,12 +107,35 @@ impl State {
         ensures joins { Joins self.old.table spot.method.0 (spot.index * spot.width + register) tag self.new.table result }
         ensures answers { self.new.answers ≡ self.old.answers }
     {
-        let place = place_of(spot, register, known.app.code_len(spot.method));
-        let changed = join_cell(&mut self.table, spot.method, place, tag);
+        known.told();
+        self.rows.join(spot.method, place_of(spot, register), tag)
+    }
+
+    /// Joins the tag of a register before one instruction into its cell before another one of the method.
+    pub fn join_same(&mut self, known: &Known, from: Spot, to: Spot, register: usize) -> bool
+        requires state { IsState known.now self.old }
+        requires from { IsSpot known.now from }
+        requires to { IsSpot known.now to }
+        requires method { to.method ≡ from.method }
+        requires register { register < from.width }
+        ensures joins { Joins self.old.table to.method.0 (to.index * to.width + register) (tag_in (row_of self.old from) register) self.new.table result }
+        ensures answers { self.new.answers ≡ self.old.answers }
+    {
+        known.told();
+        self.rows.join_cell(
+            from.method,
+            place_of(from, register),
+            place_of(to, register),
+        )
+    }
+
+    /// Adds an instruction to the agenda, where its row changed.
+    pub fn note(&mut self, spot: Spot, changed: bool)
+        ensures { self.new ≡ self.old }
+    {
         if changed {
             self.agenda.add(spot.method, spot.index);
         }
-        changed
     }
 
     /// What the returns of a method gave.
@@ -157,7 +144,7 @@ impl State {
         requires method { method.0 < length known.now.app.methods }
         ensures { result ≡ answer_of self.now method.0 }
     {
-        tag_there(&self.answers, MethodNo(0), method.0 as usize)
+        self.answers.tag(MethodNo(0), method.0 as usize)
     }
 
     /// Joins a tag into what the returns of a method gave.
@@ -169,7 +156,7 @@ impl State {
         ensures table { self.new.table ≡ self.old.table }
     {
         known.told();
-        let changed = join_cell(&mut self.answers, MethodNo(0), method.0 as usize, tag);
+        let changed = self.answers.join(MethodNo(0), method.0 as usize, tag);
         if changed {
             self.agenda.add_callers(method, tag);
         }

@@ -8,11 +8,11 @@ ghost use Rattle.tag_flow.specs.Turns.{Begins, Holds, IsBelow, Turn};
 ghost use Rattle.tag_flow.specs.Goals.{AllVisited, Below, CellUnder, EntryBegun, EntryNoBegun, IsVisited, MethodVisited, RowPassed, begun_row};
 
 use crate::agenda::Place;
-use crate::entering::callback_tag;
 use crate::known::{Known, Spot};
 use crate::state::State;
 use crate::visiting::visit;
 use ns_base::MethodNo;
+use tag_rows::callback_tag;
 
 // ---- the entries of callbacks
 
@@ -28,7 +28,7 @@ fn begin_cell(known: &Known, state: &mut State, to: Spot, register: usize) -> bo
     state.join(known, to, register, tag)
 }
 
-fn begin_row(known: &Known, state: &mut State, to: Spot) -> bool
+fn begin_cells(known: &Known, state: &mut State, to: Spot) -> bool
     requires state { IsState known.now state.old }
     requires begins { Begins known.now to }
     ensures { Turn known.now (RowPassed known.now to.method.0 0 (begun_row known.now to.method.0)) state.old state.new result }
@@ -37,6 +37,16 @@ fn begin_row(known: &Known, state: &mut State, to: Spot) -> bool
     for register in 0..to.width {
         changed |= begin_cell(known, state, to, register);
     }
+    changed
+}
+
+fn begin_row(known: &Known, state: &mut State, to: Spot) -> bool
+    requires state { IsState known.now state.old }
+    requires begins { Begins known.now to }
+    ensures { Turn known.now (RowPassed known.now to.method.0 0 (begun_row known.now to.method.0)) state.old state.new result }
+{
+    let changed = begin_cells(known, state, to);
+    state.note(to, changed);
     changed
 }
 

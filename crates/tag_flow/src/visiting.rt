@@ -8,11 +8,11 @@ ghost use Rattle.tag_flow.specs.Turns.{Turn, goes_by_itself};
 ghost use Rattle.tag_flow.specs.Goals.{Called, GaveBack, IsVisited, Threw, WentOn};
 
 use crate::calling::{call, give_back};
-use crate::change::Change;
 use crate::known::{Known, Spot};
 use crate::passing::{to_handlers, to_successors};
 use crate::state::State;
 use act_model::{Act, Throws};
+use tag_rows::Change;
 
 fn may_throw(throws: Throws) -> bool
     ensures { result ≡ flow.may_throw throws }

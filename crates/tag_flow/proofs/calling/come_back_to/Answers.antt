@@ -17,5 +17,5 @@ answer-tag-requires-clause-method c =
 pub returns : goal.returns
 returns c =
     let k = c.args.known.now in
-    subst (λ j. Turn k (AnswerAt k c.args.from.method.0 j c.args.callee) c.args.state.now c.join.new.self c.join.result) c.spot-to.ensures.index
-    (back_turn _ _ _ c.args.from c.spot-to.result c.requires.to.0 c.args.callee (c.spot-to.result.width - 1) _ c.requires.source c.spot-to.ensures.spot (search rules) (search rules) c.requires.callee (search rules) (rw c.answer-tag.ensures at c.join.ensures.joins) c.join.ensures.answers)
+    rw c.note.ensures (subst (λ j. Turn k (AnswerAt k c.args.from.method.0 j c.args.callee) c.args.state.now c.join-changed.new.self c.join-changed.result) c.spot-to.ensures.index
+    (back_turn _ _ _ c.args.from c.spot-to.result c.requires.to.0 c.args.callee (c.spot-to.result.width - 1) _ c.requires.source c.spot-to.ensures.spot (search rules) (search rules) c.requires.callee (search rules) (rw c.answer-tag.ensures at c.join-changed.ensures.joins) c.join-changed.ensures.answers))

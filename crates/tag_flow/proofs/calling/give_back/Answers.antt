@@ -1,6 +1,6 @@
 use Rattle.tag_flow.proofs.Turns.{turn_none}
 use Rattle.tag_flow.proofs.Below.{give_turn}
-use Rattle.tag_flow.proofs.Fits.{answered_fits, rows_fit}
+use Rattle.tag_rows.proofs.Fits.{answered_fits, rows_fit}
 use Rattle.tag_flow.proofs.Parts.{answer_return, no_answer}
 use Rattle.tag_flow.proofs.Reached.{known_below}
 use Rattle.tag_flow.proofs.calling.give_back.Goals as goal

@@ -1,21 +1,8 @@
 use Rattle.std.proofs.Common.{refl}
-use Rattle.tag_flow.proofs.Turns.{turn_none}
 use Rattle.tag_flow.proofs.Below.{pass_turn}
-use Rattle.tag_flow.proofs.Settled.{step_fits, step_within}
+use Rattle.tag_flow.proofs.Settled.{step_fits}
 use Rattle.tag_flow.proofs.passing.pass_cell.Goals as goal
 
-pub returns-then-is_settled : goal.returns-then-is_settled
-returns-then-is_settled c =
-    turn_none _ _ _ (c.if-is_settled.ensures refl)
-
-pub change_tag-tag-requires : goal.change_tag-tag-requires
-change_tag-tag-requires c =
-    rw (c.row.ensures.table, c.row.ensures.method, c.row.ensures.index) (step_within _ _ _ _ c.requires.step c.requires.register)
-
-pub join-requires-clause-tag : goal.join-requires-clause-tag
-join-requires-clause-tag c =
-    step_fits _ _ _ c.told.ensures _ _ c.requires.step (rw (c.row.ensures.table, c.row.ensures.method, c.row.ensures.index) at c.change_tag-tag.ensures)
-
-pub returns : goal.returns
-returns c =
-    pass_turn _ _ _ _ _ _ _ c.requires.step c.requires.register (rw (c.row.ensures.table, c.row.ensures.method, c.row.ensures.index) at c.change_tag-tag.ensures) (step_fits _ _ _ c.told.ensures _ _ c.requires.step (rw (c.row.ensures.table, c.row.ensures.method, c.row.ensures.index) at c.change_tag-tag.ensures)) c.join.ensures.joins c.join.ensures.answers
+pub returns-then-keeps : goal.returns-then-keeps
+returns-then-keeps c =
+    pass_turn _ _ _ _ _ _ _ c.requires.step c.requires.register (c.if-keeps.ensures refl) (step_fits _ _ _ c.told.ensures _ _ c.requires.step (c.if-keeps.ensures refl)) c.join_same.ensures.joins c.join_same.ensures.answers

@@ -1,6 +1,6 @@
 use Rattle.std.proofs.Common.{ap, rules, sym}
 use Rattle.act_model.specs.Changes.{after}
-use Rattle.tag_flow.proofs.Acts.{act_made, any_site}
+use Rattle.tag_rows.proofs.Acts.{act_made, any_site}
 use Rattle.tag_flow.proofs.Reached.{known_below}
 use Rattle.tag_flow.proofs.known.Known.site.Goals as goal
 

@@ -1,5 +1,0 @@
-use Rattle.tag_flow.specs.Known.{AreSitesBefore}
-use Rattle.tag_flow.proofs.sites.add_sites.Given as goal
-
-abbrev pub invariant-loop-index : goal.invariant-loop-index
-invariant-loop-index l = AreSitesBefore l.app l.method.0 l.index l.sites.items

@@ -1,5 +1,0 @@
-use Rattle.tag_flow.specs.Known.{AreSitesBefore}
-use Rattle.tag_flow.proofs.sites.find_sites.Given as goal
-
-abbrev pub invariant-loop-method : goal.invariant-loop-method
-invariant-loop-method l = AreSitesBefore l.app l.method 0 l.sites.items

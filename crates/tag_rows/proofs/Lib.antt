@@ -1,0 +1,9 @@
+pub mod Order
+pub mod Monotone
+pub mod Cells
+pub mod Acts
+pub mod Fits
+pub mod Keeping
+pub mod Numbered
+pub mod Words
+pub mod Plain

@@ -1,0 +1,5 @@
+pub mod Order
+pub mod Cells
+pub mod Entering
+pub mod Sites
+pub mod Changes

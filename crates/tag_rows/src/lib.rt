@@ -1,0 +1,22 @@
+//! Rows of tags while a table of them is made: what is joined into a cell, and what flows from a row.
+//!
+//! - `rows` has the cells of all methods, and joins into one.
+//! - `change` is what flows from an instruction of its row.
+//! - `starts` has the rows at a method's start.
+//! - `sites` numbers the calls that make a lock.
+//! - `queue` and `chains` have numbers of places that are worth a look.
+#![tactic(auto)]
+
+mod chains;
+mod change;
+mod queue;
+mod rows;
+mod sites;
+mod starts;
+
+pub use chains::{Chains, number_of};
+pub use change::{Change, Kept, change_tag, kept_by};
+pub use queue::{Queue, WORD};
+pub use rows::{RowAt, Rows, is_plain_cell};
+pub use sites::{Site, find_sites, is_make, makes_lock, site_of};
+pub use starts::{callback_tag, called_tag, entering};

@@ -1,0 +1,163 @@
+//! The cells of methods while a table is made, row by row.
+ghost use Rattle.std.specs.Prelude.{◌≡◌, ◌<◌, ◌+◌, ◌≤◌, ◌^◌, [], length, map, slice_index_or, true};
+ghost use Rattle.app_model.specs.TagTable.{HasCell, IsTagTable, cell_at, cell_count, tag_of, width_at, with_cell};
+ghost use Rattle.tag_rows.specs.Cells.{Joins, cells_len, tag_there};
+ghost use Rattle.tag_rows.specs.Changes.{is_plain};
+
+use act_model::{Row, join};
+use app_model::{Tag, TagTable};
+use ns_base::MethodNo;
+use std::marker::Model;
+
+// No cell of a tag that names a lock field or a site is below this one.
+const NAMED: u16 = 5;
+
+/// Whether the tag of a cell names no lock field and no site.
+#[tactic(auto, using(crate::proofs::Plain::plain_tag))]
+pub fn is_plain_cell(cell: u16) -> bool
+    ensures { result ≡ true → is_plain (tag_of cell) ≡ true }
+{
+    cell < NAMED
+}
+
+/// The cells of each method, as a table of tags has them.
+#[derive(Drop)]
+pub struct Rows {
+    registers: Vec<u32>,
+    cells: Vec<Vec<u16>>,
+}
+
+impl Model for Rows {
+    ghost use Rattle.app_model.specs.TagTable.{TagParts, IsTagTable};
+    ghost use Rattle.std.specs.Prelude.{map};
+
+    ghost Value = { TagParts };
+
+    ghost view = { λ t. record { registers = t.registers.items; cells = map (λ v. v.items) t.cells.items } };
+
+    ghost invariant = { λ t. IsTagTable (record { registers = t.registers.items; cells = map (λ v. v.items) t.cells.items }) };
+}
+
+impl Rows {
+    /// Both have an entry for each method.
+    pub fn new(registers: Vec<u32>, cells: Vec<Vec<u16>>) -> Rows
+        requires { IsTagTable (record { registers = registers.items; cells = map (λ v. v.items) cells.items }) }
+        ensures { result ≡ record { registers = registers.items; cells = map (λ v. v.items) cells.items } }
+    {
+        Rows { registers, cells }
+    }
+
+    pub fn into_table(self) -> TagTable
+        ensures { result ≡ self }
+    {
+        TagTable::new(self.registers, self.cells)
+    }
+
+    /// How many cells a row of a method has.
+    pub fn width(&self, method: MethodNo) -> usize
+        ensures width { result ≡ width_at self.now method.0 }
+        ensures limit { result ≤ 2 ^ 32 }
+    {
+        self.registers(method) as usize + 1
+    }
+
+    fn registers(&self, method: MethodNo) -> u32
+        ensures { result + 1 ≡ width_at self.now method.0 }
+    {
+        match self.registers.get(method.0 as usize) {
+            Some(registers) => *registers,
+            None => 0,
+        }
+    }
+
+    /// The cell at a place of a method's cells; that of Bot past the end.
+    #[tactic(auto, unfolding(app_model::specs::TagTable::cell_at))]
+    pub fn cell(&self, method: MethodNo, place: usize) -> u16
+        ensures cell { result ≡ cell_at self.now method.0 place }
+        ensures fits { result < cell_count }
+    {
+        match self.cells.get(method.0 as usize) {
+            Some(cells) => cells.get(place).copied().unwrap_or(0),
+            None => 0,
+        }
+    }
+
+    /// The tag at a place of a method's cells.
+    pub fn tag(&self, method: MethodNo, place: usize) -> Tag
+        ensures tag { result ≡ tag_there self.now method.0 place }
+        ensures fits { HasCell result }
+    {
+        Tag::of_cell(self.cell(method, place))
+    }
+
+    #[tactic(auto, unfolding(app_model::specs::TagTable::with_cell))]
+    fn put(&mut self, method: MethodNo, place: usize, cell: u16)
+        requires place { place < cells_len self.old method.0 }
+        requires fits { cell < cell_count }
+        ensures { self.new ≡ with_cell self.old method.0 place cell }
+    {
+        self.cells[method.0 as usize][place] = cell;
+    }
+
+    /// Joins a tag into a cell, and tells whether the cell changed.
+    pub fn join(&mut self, method: MethodNo, place: usize, tag: Tag) -> bool
+        requires place { place < cells_len self.old method.0 }
+        requires tag { HasCell tag }
+        ensures { Joins self.old method.0 place tag self.new result }
+    {
+        let before = self.tag(method, place);
+        let joined = join(before, tag);
+        if joined == before {
+            return false;
+        }
+        self.put(method, place, joined.cell());
+        true
+    }
+
+    /// Joins the tag of a cell into another cell of the method, and tells whether that changed.
+    pub fn join_cell(&mut self, method: MethodNo, from: usize, to: usize) -> bool
+        requires { to < cells_len self.old method.0 }
+        ensures { Joins self.old method.0 to (tag_there self.old method.0 from) self.new result }
+    {
+        let cell = self.cell(method, from);
+        let before = self.cell(method, to);
+        if cell == before {
+            return false;
+        }
+        if before == 0 {
+            self.put(method, to, cell);
+            return true;
+        }
+        self.join(method, to, Tag::of_cell(cell))
+    }
+}
+
+/// The tags before an instruction.
+#[derive(Clone, Copy)]
+pub struct RowAt<'a> {
+    pub rows: &'a Rows,
+    pub method: MethodNo,
+    pub index: u32,
+}
+
+impl Row for RowAt<'_> {
+    ghost use Rattle.app_model.specs.TagTable as table;
+
+    ghost tags = { λ at. table.row_at at.rows.now at.method.0 at.index };
+
+    #[tactic(auto, using(app_model::proofs::Cells::tag_past, app_model::proofs::Cells::tag_within))]
+    fn tag(&self, register: usize) -> Tag {
+        let width = self.rows.width(self.method);
+        if register < width {
+            let place = self.index as usize * width + register;
+            self.rows.tag(self.method, place)
+        } else {
+            Tag::Bot
+        }
+    }
+
+    #[tactic(auto, using(app_model::proofs::Cells::row_at_width))]
+    fn cells(&self) -> usize {
+        self.rows.width(self.method)
+    }
+}
