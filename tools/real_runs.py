@@ -19,6 +19,7 @@ import sample_dex
 TOP = pathlib.Path(__file__).resolve().parent.parent
 LIMIT = 33_554_432
 LIST_LIMIT = 1_048_576
+TARGETS = 16_777_216
 SECONDS = 60
 
 HELP = b"""usage: nosleep receiver [--json] [--count] DEX CLASS
@@ -65,6 +66,8 @@ RUNS = [
     ("an activity and its runnable", ["verify", "inner.toml", "inner_class.dex"], None, 0, b"accept\n"),
     ("a throw that is caught while a lock is held", ["receiver", "thrown_leaks.dex", R], None, 1, LEAK),
     ("methods that call each other while they hold", ["receiver", "mutual_holds.dex", R], None, 1, MUTUAL),
+    ("as many targets of calls as there may be", ["verify", "/dev/null", "targets.dex"], None, 0, b"accept\n"),
+    ("one more", ["verify", "/dev/null", "more_targets.dex"], None, 8, b"limit Targets\n"),
     ("too many cells of tags", ["receiver", "wide.dex", R], None, 8, b"limit TagCells\n"),
     ("a list that is none", ["verify", "works.dex", "works.dex"], None, 3, b"bad list Text\n"),
     ("a folder as a list", ["verify", ".", "works.dex"], None, 5, b"cannot read .\n"),
@@ -92,6 +95,8 @@ def lay_out(folder):
         shutil.copy(TOP / f"crates/sample_apps/data/{name}.dex", folder)
     for name, size in (("most", LIST_LIMIT), ("more", LIST_LIMIT + 1)):
         (folder / f"{name}.toml").write_bytes(LIST + b"#" * (size - len(LIST)))
+    for name, count in (("targets", TARGETS), ("more_targets", TARGETS + 1)):
+        subprocess.run([sys.executable, TOP / "bench/make_hierarchy.py", "entries", str(count), folder / f"{name}.dex"], check=True)
     # classes, members, code with each payload, and tries, as a compiled application has them
     subprocess.run([sys.executable, TOP / "bench/generate_dex.py", folder / "large.dex"], check=True)
 
