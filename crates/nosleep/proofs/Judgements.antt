@@ -115,6 +115,9 @@ module _ {E : Type 0} (listed : Result (List ListedParts) ListFault) (files : Li
   list_outcome wanted fault (Err e) exact comes is = tt
 
 -- ---- what is found of the code is too much, or breaks a rule of scope
+abbrev candidate_by : AppParts → GraphParts → List ComponentParts → TagParts → Candidate
+candidate_by app graph list tags = record { app = app; graph = graph; list = list; tags = tags }
+
 module _ {E : Type 0} (files : List (List ℕ)) (rows : List ListedParts) (app : AppParts) (list : List ComponentParts) (is : IsApplication files app) (bound : bound_of app rows ≡ Ok list) where
   pub targets_answer : (fault : TargetFault) (r : Result Answer E) → targets.IsCause app fault → IfOk r (λ a. IsTooMany (counted_target fault) a.text.items a.exit) → IfOk r (λ a. HasOutcome (Ok rows) files a.text.items a.exit)
   targets_answer (target.Limit which) (Ok a) cause told = (Err (Exceeds Targets), many_targets rows app list refl is bound cause.1, (refl, subst (λ (c : Counted). IsOver c a.text.items a.exit) cause.0 told))
@@ -129,13 +132,10 @@ module _ {E : Type 0} (files : List (List ℕ)) (rows : List ListedParts) (app :
   tags_answer graph fault (Err e) few is_graph cause told = tt
 
   module _ (graph : GraphParts) (table : TagParts) (within : IsWithinLimits app graph list) where
-    abbrev found : Candidate
-    found = record { app = app; graph = graph; list = list; tags = table }
+    pub scope_answer : (fault : ScopeFault) (r : Result Answer E) → IsTagTableOf app graph list table → IsCause (candidate_by app graph list table) fault → IfOk r (λ a. IsRefused (OutOfScope fault) a.text.items a.exit) → IfOk r (λ a. HasOutcome (Ok rows) files a.text.items a.exit)
+    scope_answer fault r is_table cause told = has_outcome (Ok rows) files (Err (OutOfScope fault)) r (out_of_scope rows (candidate_by app graph list table) fault refl is bound within is_table cause) told
 
-    pub scope_answer : (fault : ScopeFault) (r : Result Answer E) → IsTagTableOf app graph list table → IsCause found fault → IfOk r (λ a. IsRefused (OutOfScope fault) a.text.items a.exit) → IfOk r (λ a. HasOutcome (Ok rows) files a.text.items a.exit)
-    scope_answer fault r is_table cause told = has_outcome (Ok rows) files (Err (OutOfScope fault)) r (out_of_scope rows found fault refl is bound within is_table cause) told
-
-    pub judged_answer : (x : SubjectParts) (r : Result Answer E) → candidate_of x ≡ found → IsInScope x → IfOk r (λ a. IsJudgement x a.text.items a.exit) → IfOk r (λ a. HasOutcome (Ok rows) files a.text.items a.exit)
+    pub judged_answer : (x : SubjectParts) (r : Result Answer E) → candidate_of x ≡ candidate_by app graph list table → IsInScope x → IfOk r (λ a. IsJudgement x a.text.items a.exit) → IfOk r (λ a. HasOutcome (Ok rows) files a.text.items a.exit)
     judged_answer x r same scope told =
         has_outcome (Ok rows) files (Ok x) r
         (judged rows x refl (subst (λ (c : Candidate). IsApplication files c.app) (sym same) is) (subst (λ (c : Candidate). bound_of c.app rows ≡ Ok c.list) (sym same) bound)
@@ -153,8 +153,8 @@ refused_with (Exceeds which) = inr (inl refl)
 refused_with (OutOfScope fault) = inr (inr refl)
 
 refused_by : (limit : Option Counted) (by : Exit) (wanted text : List ℕ) (exit : Exit) → AsRefused by → IsRefusedAs limit by wanted text exit → AsRefused exit
-refused_by None by wanted text exit as is = subst AsRefused (sym is.0) as
-refused_by (Some which) by wanted text exit as is = inr (inl is.0)
+refused_by None by wanted text exit ok is = subst AsRefused (sym is.0) ok
+refused_by (Some which) by wanted text exit ok is = inr (inl is.0)
 
 refused_exit : (refusal : Refusal) (text : List ℕ) (exit : Exit) → IsRefused refusal text exit → AsRefused exit
 refused_exit refusal text exit is = refused_by (refusal_limit refusal) (refusal_exit refusal) (refusal_text refusal) text exit (refused_with refusal) is.1
@@ -245,14 +245,14 @@ module _ (listed : Result (List ListedParts) ListFault) (files : List (List ℕ)
       let graph_here = subst (λ (a : AppParts). IsCallGraph a graph) same_app is_graph in
       let cells_here = subst (λ (a : AppParts). HasCells a graph x.list n) same_app (subst (λ (c : List ComponentParts). HasCells other graph c n) same_list cells) in
       let own = within.cells.1 in
-      let total = same_cells x.graph graph (same_targets x.app x.graph graph within.graph graph_here) x.app x.list own.reached cells_here.reached own.reaches cells_here.reaches in
+      let total = same_cells x.graph graph (same_targets x.app x.graph graph within.calls graph_here) x.app x.list own.reached cells_here.reached own.reaches cells_here.reaches in
       omega (arith, many, within.cells.2, own.count, cells_here.count, total)
 
   no_break : (found : Candidate) (fault : ScopeFault) (text : List ℕ) (exit : Exit) → found.app ≡ x.app → found.list ≡ x.list → IsWithinLimits found.app found.graph found.list → IsTagTableOf found.app found.graph found.list found.tags
       → IsCause found fault → IsRefused (OutOfScope fault) text exit → ⊥
   no_break found scopes.Memory text exit same_app same_list fits table cause r = false≢true (sym r.0)
   no_break found (scopes.Rule rule method pc class name) text exit same_app same_list fits table cause r =
-      let graph_here = subst (λ (a : AppParts). IsCallGraph a found.graph) same_app fits.graph in
+      let graph_here = subst (λ (a : AppParts). IsCallGraph a found.graph) same_app fits.calls in
       let table_here = subst (λ (a : AppParts). IsTagTableOf a found.graph x.list found.tags) same_app (subst (λ (c : List ComponentParts). IsTagTableOf found.app found.graph c found.tags) same_list table) in
       let broken = cause.first.broken in
       let same : found ≡ record { app = x.app; graph = found.graph; list = x.list; tags = found.tags } = rw (same_app, same_list) refl in
@@ -284,7 +284,7 @@ module _ (listed : Result (List ListedParts) ListFault) (files : List (List ℕ)
   outcome_of_judged _ r x text exit same (unbound rows app fault e at b) c o = absurd (not_both x _ _ same refl)
   outcome_of_judged _ r x text exit same (many_targets rows app list e at b many) c o = absurd (not_both x _ _ same refl)
   outcome_of_judged _ r x text exit same (many_cells rows app graph list n e at b few is_graph cells many) c o = absurd (not_both x _ _ same refl)
-  outcome_of_judged _ r x text exit same (out_of_scope rows found fault e at b fits table cause) c o = absurd (not_both x _ _ same refl)
+  outcome_of_judged _ r x text exit same (out_of_scope rows other fault e at b fits table cause) c o = absurd (not_both x _ _ same refl)
 
 form_outcome : (form : Form) (all : List (List ℕ)) (r : Result SubjectParts Refusal) (x : SubjectParts) (text : List ℕ) (exit : Exit) → BytesComeTo form all (Ok x) → BytesComeTo form all r → IsOutcome r text exit → AsJudged exit
 form_outcome (Receiver dex class) files r x text exit p c o = outcome_of_judged _ files (Ok x) r x text exit refl p c o

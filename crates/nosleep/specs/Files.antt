@@ -71,7 +71,7 @@ pub record IsApplication (files : List (List ℕ)) (app : AppParts) : Type 0 whe
 -- the entries of its call graph and the cells of its tags are as many as there may be
 pub record IsWithinLimits (app : AppParts) (graph : GraphParts) (list : List ComponentParts) : Type 0 where
   pub targets : entry_count app ≤ limit_of Targets
-  pub graph : IsCallGraph app graph
+  pub calls : IsCallGraph app graph
   pub cells : HasFew app graph list
 
 -- each step is taken where those before it are

@@ -6,9 +6,9 @@ use Rattle.nosleep.proofs.judging.answer_app.Goals as goal
 
 pub returns-in-Ok-bind_list : goal.returns-in-Ok-bind_list
 returns-in-Ok-bind_list c = λ files is.
-    c.answer_bound.ensures c.args.listed.now files is c.in-Ok-bind_list.ensures.bound
+    c.answer_bound.ensures c.args.listed.now files is c.in-Ok-bind_list.ensures.exact
 
-pub returns : goal.returns
-returns c = λ files is.
-    list_outcome (Ok c.args.listed.now) files (bound_of c.args.app.now c.args.listed.now) c.in-Err-bind_list.fault c.refuse_list.result c.in-Err-bind_list.ensures.exact
-    (λ e. unbound c.args.listed.now c.args.app.now c.in-Err-bind_list.fault refl is e) c.refuse_list.ensures
+pub returns-in-Err-bind_list : goal.returns-in-Err-bind_list
+returns-in-Err-bind_list c = λ files is.
+    list_outcome (Ok c.args.listed.now) files (bound_of c.args.app c.args.listed.now) c.in-Err-bind_list.fault c.refuse_list.result c.in-Err-bind_list.ensures.exact
+    (λ e. unbound c.args.listed.now c.args.app c.in-Err-bind_list.fault refl is e) c.refuse_list.ensures
