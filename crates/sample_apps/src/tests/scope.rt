@@ -238,11 +238,7 @@ fn list_of(alloc: Global, name: &str) -> Result<String, Fail> {
 }
 
 // What is the first row with another break.
-fn first_wrong(
-    alloc: Global,
-    digits: &[&str],
-    rows: &[Row],
-) -> Result<Option<&'static str>, Fail> {
+fn first_wrong(alloc: Global, digits: &[&str], rows: &[Row]) -> Result<Option<&'static str>, Fail> {
     for (what, name, first) in rows.iter() {
         let list = list_of(alloc, name)?;
         if !breaks(alloc, digits, list.as_bytes(), first)? {

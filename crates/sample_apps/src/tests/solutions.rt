@@ -18,9 +18,11 @@ const SERVICE: &str = "[[component]]\nkind = \"service\"\nclass = \"Lapp/S;\"\n"
 
 const ACTIVITY: &str = "[[component]]\nkind = \"activity\"\nclass = \"Lapp/A;\"\n";
 
-const WITH_RUNNABLE: &str = "[[component]]\nkind = \"activity\"\nclass = \"Lapp/A;\"\n[[component]]\nkind = \"runnable\"\nclass = \"Lapp/A$1;\"\n";
+const WITH_RUNNABLE: &str =
+    "[[component]]\nkind = \"activity\"\nclass = \"Lapp/A;\"\n[[component]]\nkind = \"runnable\"\nclass = \"Lapp/A$1;\"\n";
 
-const SERVICES: &str = "[[component]]\nkind = \"service\"\nclass = \"Lapp/S;\"\n[[component]]\nkind = \"service\"\nclass = \"Lapp/T;\"\n";
+const SERVICES: &str =
+    "[[component]]\nkind = \"service\"\nclass = \"Lapp/S;\"\n[[component]]\nkind = \"service\"\nclass = \"Lapp/T;\"\n";
 
 // A violation: component, callback, lock, status.
 type Found = (u32, u32, u32, u8);
@@ -147,7 +149,10 @@ fn is_found(violation: &Violation, found: &Found) -> bool {
 // Whether these are the violations, in this order.
 fn are_found(violations: &[Violation], found: &[Found]) -> bool {
     violations.len() == found.len()
-        && violations.iter().zip(found).all(|(violation, found)| is_found(violation, found))
+        && violations
+            .iter()
+            .zip(found)
+            .all(|(violation, found)| is_found(violation, found))
 }
 
 fn has_views(subject: &Subject, solution: &Solution, component: u32, views: &[u8]) -> bool
@@ -166,7 +171,10 @@ fn has_views(subject: &Subject, solution: &Solution, component: u32, views: &[u8
 // Whether the one lock of a file has these statuses and violations.
 fn is_solved(alloc: Global, row: &Row) -> Result<bool, Fail> {
     let subject = subject_by(alloc, row.file, row.list)?;
-    if subject.lock_count() != 1 || row.component as usize >= subject.list.rows.len() || row.views.len() > 7 {
+    if subject.lock_count() != 1
+        || row.component as usize >= subject.list.rows.len()
+        || row.views.len() > 7
+    {
         return Err("one lock, and a listed component".into());
     }
     let mut rows = StatusRows::new();
@@ -199,7 +207,11 @@ fn statuses_and_violations_are_those_of_the_rules(rt: HostRuntime) -> Result<(),
 #[test]
 fn violations_stand_by_component_callback_lock_and_status(rt: HostRuntime) -> Result<(), Fail> {
     for row in ROWS.iter() {
-        assert!(rt; finds(rt.alloc(), row.file, row.list, row.found)?, "{}", row.what);
+        assert!(rt;
+            finds(rt.alloc(), row.file, row.list, row.found)?,
+            "{}",
+            row.what
+        );
     }
     assert!(rt; finds(rt.alloc(), &samples::TWO_LOCKS, RECEIVER, &BY_LOCK)?);
     Ok(())
