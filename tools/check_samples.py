@@ -7,6 +7,7 @@ import sys
 
 import assemble
 import sample_dex
+import write_samples
 
 top = pathlib.Path(__file__).resolve().parent.parent
 
@@ -24,14 +25,13 @@ for name, found in (("sample_dex.py", sample_dex.layout(*sample_dex.BODIES["work
         sys.exit(f"crates/nosleep/data/receiver.dex differs from what {name} has")
 print("the stored sample is the same in all three places")
 
-data = top / "crates/sample_apps/data"
+data = write_samples.data
 texts = sorted(data.glob("*.txt"))
 for text in texts:
     if assemble.assemble(text.read_text()) != text.with_suffix(".dex").read_bytes():
-        sys.exit(f"{text} differs from the file that was made of it")
-for file in data.glob("*.dex"):
-    if in_tests("sample_apps/src/tests/samples.rt", file.stem.upper()) != file.read_bytes():
-        sys.exit(f"{file} differs from what the tests have")
+        sys.exit(f"{text} differs from the file that was made of it: run tools/write_samples.py")
+if write_samples.samples.read_text() != write_samples.written():
+    sys.exit(f"{write_samples.samples} has other digits than {data}: run tools/write_samples.py")
 if (data / "receiver.dex").read_bytes() != stored:
     sys.exit("crates/sample_apps/data/receiver.dex is not the stored sample")
 print(f"{len(texts)} applications are what their texts say, and what the tests have")

@@ -1,7 +1,8 @@
 //! The first rule of scope that an application breaks under a list, and where.
-use super::read_app;
+use super::{read_app, samples};
 use crate::{Stop, subject_of};
 use scope_check::ScopeFault;
+use std::alloc::Global;
 use std::test::Fail;
 
 // The rule, the class and the method where it is broken, and the pc.
@@ -144,41 +145,43 @@ static LOCKS: [Row; 15] = [
     ),
 ];
 
-// Files, each with the receiver R.
-static FILES: [Row; 7] = [
+// What is shown, a file, of which the receiver R is listed, and the first break.
+type FileRow = (&'static str, &'static [&'static str], Option<Broken>);
+
+static FILES: [FileRow; 7] = [
     (
         "a receiver that makes, acquires and releases",
-        "receiver.dex",
+        &samples::RECEIVER,
         None,
     ),
     (
         "a field that its class initialises",
-        "initialises.dex",
+        &samples::INITIALISES,
         None,
     ),
     (
         "an unlisted callback by name",
-        "unlisted.dex",
+        &samples::UNLISTED,
         Some((9, "Lapp/R;", "onCall", 0)),
     ),
     (
         "an unlisted runnable, by two calls",
-        "run_leads.dex",
+        &samples::RUN_LEADS,
         Some((9, "Lapp/Run;", "run", 0)),
     ),
     (
         "a class initialiser that leads to a lock",
-        "class_leads.dex",
+        &samples::CLASS_LEADS,
         Some((10, "Lapp/R;", "<clinit>", 0)),
     ),
     (
         "an initialiser of what a listed class inherits",
-        "makes_leads.dex",
+        &samples::MAKES_LEADS,
         Some((10, "Lapp/Base;", "<init>", 0)),
     ),
     (
         "a lock as an argument of a method that calls itself",
-        "tags.dex",
+        &samples::TAGS,
         Some((4, "Lapp/R;", "again", 0)),
     ),
 ];
@@ -210,9 +213,14 @@ fn is_broken(stopped: &Stop, broken: &Broken) -> bool {
 }
 
 // Whether the application under the text of a list has this first break.
-fn breaks(rt: &HostRuntime, file: &str, text: &[u8], first: &Option<Broken>) -> Result<bool, Fail> {
-    let app = read_app(rt, file)?;
-    Ok(match (subject_of(rt.alloc(), app, text), first) {
+fn breaks(
+    alloc: Global,
+    digits: &[&str],
+    text: &[u8],
+    first: &Option<Broken>,
+) -> Result<bool, Fail> {
+    let app = read_app(alloc, digits)?;
+    Ok(match (subject_of(alloc, app, text), first) {
         (Ok(_), None) => true,
         (Err(stopped), Some(broken)) => is_broken(&stopped, broken),
         _ => false,
@@ -220,57 +228,60 @@ fn breaks(rt: &HostRuntime, file: &str, text: &[u8], first: &Option<Broken>) -> 
 }
 
 // The text of a list of one receiver.
-fn list_of(rt: &HostRuntime, name: &str) -> Result<String, Fail> {
+fn list_of(alloc: Global, name: &str) -> Result<String, Fail> {
     let parts = [
         "[[component]]\nkind = \"receiver\"\nclass = \"Lapp/",
         name,
         ";\"\n",
     ];
-    Ok(parts.concat(rt.alloc())?)
+    Ok(parts.concat(alloc)?)
+}
+
+// What is the first row with another break.
+fn first_wrong(alloc: Global, digits: &[&str], rows: &[Row]) -> Result<Option<&'static str>, Fail> {
+    for (what, name, first) in rows.iter() {
+        let list = list_of(alloc, name)?;
+        if !breaks(alloc, digits, list.as_bytes(), first)? {
+            return Ok(Some(*what));
+        }
+    }
+    Ok(None)
 }
 
 #[test]
 fn native_code_reflection_and_threads_are_refused(rt: HostRuntime) -> Result<(), Fail> {
-    for (what, name, first) in CALLS_OUT.iter() {
-        let list = list_of(&rt, name)?;
-        assert!(rt;
-            breaks(&rt, "calls_out.dex", list.as_bytes(), first)?,
-            "{what}"
-        );
-    }
+    assert_eq!(rt;
+        first_wrong(rt.alloc(), &samples::CALLS_OUT, &CALLS_OUT)?,
+        None
+    );
     Ok(())
 }
 
 #[test]
 fn locks_that_are_not_followed_are_refused(rt: HostRuntime) -> Result<(), Fail> {
-    for (what, name, first) in LOCKS.iter() {
-        let list = list_of(&rt, name)?;
-        assert!(rt; breaks(&rt, "locks.dex", list.as_bytes(), first)?, "{what}");
-    }
+    assert_eq!(rt; first_wrong(rt.alloc(), &samples::LOCKS, &LOCKS)?, None);
     Ok(())
 }
 
 #[test]
 fn an_instance_field_has_one_owner(rt: HostRuntime) -> Result<(), Fail> {
     let broken = Some((7, "Lapp/Owns;", "onReceive", 0));
-    assert!(rt; breaks(&rt, "locks.dex", TWO_OWNERS, &broken)?);
-    assert!(rt; breaks(&rt, "inner_class.dex", WITH_RUNNABLE, &None)?);
+    let alloc = rt.alloc();
+    assert!(rt; breaks(alloc, &samples::LOCKS, TWO_OWNERS, &broken)?);
+    assert!(rt; breaks(alloc, &samples::INNER_CLASS, WITH_RUNNABLE, &None)?);
     Ok(())
 }
 
 #[test]
 fn what_no_listed_callback_reaches_is_looked_at(rt: HostRuntime) -> Result<(), Fail> {
-    let list = list_of(&rt, "R")?;
-    for (what, file, first) in FILES.iter() {
-        assert!(rt; breaks(&rt, file, list.as_bytes(), first)?, "{what}");
+    let list = list_of(rt.alloc(), "R")?;
+    for (what, digits, first) in FILES.iter() {
+        assert!(rt;
+            breaks(rt.alloc(), digits, list.as_bytes(), first)?,
+            "{what}"
+        );
     }
-    assert!(rt;
-        breaks(
-            &rt,
-            "receiver.dex",
-            b"",
-            &Some((8, "Lapp/R;", "onReceive", 11))
-        )?
-    );
+    let unlisted = Some((8, "Lapp/R;", "onReceive", 11));
+    assert!(rt; breaks(rt.alloc(), &samples::RECEIVER, b"", &unlisted)?);
     Ok(())
 }

@@ -1,11 +1,12 @@
 //! Tags before instructions, through calls and along lists.
 use super::read_app;
-use super::samples::{INNER_CLASS, TAGS};
-use crate::tags_of;
+use super::samples::{INNER_CLASS, TAGS, WIDE};
+use crate::{Stop, tags_of};
 use app_model::Tag;
-use ns_base::{LockNo, MethodNo};
+use ns_base::{Counted, LockNo, MethodNo};
 use std::alloc::Global;
 use std::test::Fail;
+use tag_flow::TagFault;
 
 const RECEIVER: &str = "[[component]]\nkind = \"receiver\"\nclass = \"Lapp/R;\"\n";
 
@@ -101,5 +102,13 @@ fn tags_follow_calls_and_callees(rt: HostRuntime) -> Result<(), Fail> {
 #[test]
 fn nothing_is_known_where_no_callback_is_listed(rt: HostRuntime) -> Result<(), Fail> {
     assert_eq!(rt; first_wrong(rt.alloc(), &TAGS, "", &UNLISTED)?, None);
+    Ok(())
+}
+
+#[test]
+fn a_row_more_than_the_limit_of_cells_is_refused(rt: HostRuntime) -> Result<(), Fail> {
+    let app = read_app(rt.alloc(), &WIDE)?;
+    let stopped = tags_of(rt.alloc(), &app, RECEIVER.as_bytes());
+    assert!(rt; matches!(stopped, Err(Stop::Tags(TagFault::Limit(Counted::TagCells)))));
     Ok(())
 }
