@@ -1,7 +1,7 @@
 //! Facts follow the masks that are asked, whosever they are.
-ghost use Rattle.std.specs.Prelude.{◌<◌};
+ghost use Rattle.std.specs.Prelude.{IfOk};
+ghost use Rattle.app_model.specs.Subject.{IsEnterable};
 ghost use Rattle.solution.specs.Facts.{HasPlaces};
-ghost use Rattle.solution.specs.Table.{row_len};
 
 use super::read_app;
 use super::samples::RECEIVER;
@@ -11,6 +11,7 @@ use flow_model::{Rows, StatusRows};
 use ns_base::{ComponentNo, LockNo, MethodNo};
 use solution::Solution;
 use solver::solve_calls;
+use std::alloc::Global;
 use std::test::Fail;
 
 const LIST: &str = "[[component]]\nkind = \"receiver\"\nclass = \"Lapp/R;\"\n";
@@ -46,7 +47,11 @@ impl Rows for Altered {
         status: u8,
     ) -> u8 {
         let mask = self.rules.pass(subject, lock, method, index, to, status);
-        if index == self.index { self.passes } else { mask }
+        if index == self.index {
+            self.passes
+        } else {
+            mask
+        }
     }
 
     fn throws(
@@ -58,7 +63,11 @@ impl Rows for Altered {
         status: u8,
     ) -> u8 {
         let mask = self.rules.throws(subject, lock, method, index, status);
-        if index == self.index { self.throws } else { mask }
+        if index == self.index {
+            self.throws
+        } else {
+            mask
+        }
     }
 }
 
@@ -79,7 +88,11 @@ static ROWS: [Row; 6] = [
         (ACQUIRE, 0x02, 0),
         (0, 0x03),
     ),
-    ("an acquire that throws always", (ACQUIRE, 0, 0x02), (0, 0x03)),
+    (
+        "an acquire that throws always",
+        (ACQUIRE, 0, 0x02),
+        (0, 0x03),
+    ),
     (
         "one that leaves the lock uncounted and held",
         (ACQUIRE, 0x40, 0),
@@ -97,23 +110,34 @@ static ROWS: [Row; 6] = [
     ),
 ];
 
-// The statuses at which the callback returns and throws, where it is entered with no lock in the field.
+// One fact: a method is entered with no lock in the field.
+#[tactic(auto, using(solver::proofs::Turns::places_kept), unfolding(solution::specs::Facts::place_count))]
+fn entered(alloc: Global, subject: &Subject, method: MethodNo) -> Result<Solution, Fail>
+    requires { IsEnterable subject.now method.0 }
+    ensures { IfOk result (HasPlaces subject.now) }
+{
+    let Ok(mut solution) = Solution::new(alloc, subject) else {
+        return Err("there is memory".into());
+    };
+    solution.join_at(method, 0, 1);
+    Ok(solution)
+}
+
+// The statuses at which the callback then returns and throws.
 fn ends(rt: &HostRuntime, rows: &mut Altered) -> Result<(u8, u8), Fail> {
     let alloc = rt.alloc();
     let app = read_app(alloc, &RECEIVER)?;
     let Ok(subject) = subject_of(alloc, app, LIST.as_bytes()) else {
         return Err("an application in scope".into());
     };
-    if subject.lock_count() != 1 || subject.list.rows.is_empty() {
+    let components = subject.list.rows.len();
+    if components == 0 || subject.lock_count() != 1 {
         return Err("one lock, and a component".into());
     }
     let Some(method) = subject.callback(ComponentNo(0), 0) else {
         return Err("a callback".into());
     };
-    let Ok(mut solution) = Solution::new(alloc, &subject) else {
-        return Err("there is memory".into());
-    };
-    solution.join_at(method, 0, 1);
+    let mut solution = entered(alloc, &subject, method)?;
     match solve_calls(alloc, &subject, LockNo(0), &mut solution, rows) {
         Ok(()) => Ok((solution.ret(method, 0), solution.exc(method, 0))),
         Err(_) => Err("there is memory".into()),
