@@ -11,6 +11,7 @@ use std::test::Fail;
 
 mod calls;
 mod hierarchy;
+mod rows;
 mod samples;
 mod scope;
 mod solutions;
