@@ -1,10 +1,10 @@
 #!/usr/bin/env python3
-"""Writes a DEX 035 file that is hard on an analysis over calls or on a solver, and its component list. All shapes are in scope.
+"""Writes a DEX 035 file that is hard on an analysis over calls or on a solver, and its list. All shapes are in scope.
 
 usage: make_app.py SHAPE COUNT OUT.dex OUT.toml
 
-In all but `real`, `shared` and `wide` there is one receiver, Lapp/R;, with the static wake lock `wl`, which `onReceive` makes once,
-acquires each time and never releases.
+In all but `real`, `shared` and `wide` there is one receiver, Lapp/R;, with the static wake lock `wl`, which `onReceive` makes
+once, acquires each time and never releases.
 
 chain: COUNT static methods of 16 registers and 24 instructions, each of which calls the next one.
 falling: the same with the methods in the order in which their results are known last: each calls the one before it.
@@ -13,7 +13,8 @@ wide: one method of COUNT registers and 500 instructions, and no lock.
 shared: COUNT receivers, at most 64, each with a lock of its own, over one chain of 2,000 methods; each seventh one leaks.
 switch: one method with a switch of COUNT targets, at which the lock is acquired or released by turns.
 loop: one method of COUNT instructions in a loop, the lock acquired in the middle.
-backward: one method of COUNT blocks, of which each jumps to the one before it.
+backward: one method of COUNT blocks, of which each jumps to the one before it; at most 5,000.
+sequence: one method that calls COUNT methods, one behind the other; each of them does nothing.
 real: an application like a real one, of COUNT methods and fourteen instructions a method (`real_app.py`).
 """
 import pathlib
@@ -78,9 +79,15 @@ def shared(count):
 
 
 def backward(count):
+    assert count <= 5_000, "a jump reaches no further"
     blocks = "".join(f"b{k}:\nmove v1 v2\nmove v2 v1\nif-eqz v1 last\n" + (f"goto b{k - 1}\n" if k else "goto last\n")
                      for k in range(count))
     return RECEIVER + OPENING + f"goto b{count - 1}\nlast:\nreturn-void\n" + blocks
+
+
+def sequence(count):
+    callees = "".join(f"method h{k:06} ()V 0 static\nreturn-void\n" for k in range(count))
+    return RECEIVER + callees + OPENING + "".join(f"invoke-static Lapp/R;->h{k:06}()V\n" for k in range(count)) + "return-void\n"
 
 
 def far(distance):
@@ -142,7 +149,7 @@ def made(shape, count):
         return (switched if shape == "switch" else looping)(count), listed(["Lapp/R;"])
     if shape == "shared":
         return assemble(shared(count)), listed(f"Lapp/D{i};" for i in range(count))
-    text = {"wide": wide, "backward": backward}.get(shape, lambda count: calls(shape, count))(count)
+    text = {"wide": wide, "backward": backward, "sequence": sequence}.get(shape, lambda count: calls(shape, count))(count)
     return assemble(text), listed(["Lapp/R;"])
 
 

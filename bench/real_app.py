@@ -1,9 +1,9 @@
-"""Makes up an application in scope that is as large and as tangled as a real one: fourteen instructions a method, branches, loops,
-switches, handlers, calls through superclasses and interfaces, components of each kind, and seven wake locks.
+"""Makes up an application in scope that is as large and as tangled as a real one: fourteen instructions a method, branches,
+loops, switches, handlers, calls through superclasses and interfaces, components of each kind, and seven wake locks.
 
-Components and the helpers of locks are written as text, one after the other like a developer's; all other code is left to chance
-(`dex_bodies.py`). Packages call their own methods, those of later packages and outside ones. No name and no call breaks a rule of scope:
-locks stay in the helpers, and what no callback reaches does not bear a callback's name.
+Components and the helpers of locks are written as text; all other code is left to chance (`dex_bodies.py`). Packages call
+their own methods, those of later packages and outside ones. No name and no call breaks a rule of scope: locks stay in the
+helpers, and what no callback reaches does not bear a callback's name. The same bytes each time.
 """
 import types
 
@@ -22,8 +22,8 @@ OUTSIDE = 300
 
 CREATE, CONTEXT = "onCreate (Landroid/os/Bundle;)V", "Landroid/content/Context;"
 COMPONENTS = {
-    "activity": ("Landroid/app/Activity;", [CREATE, "onStart ()V", "onResume ()V", "onPause ()V", "onStop ()V", "onRestart ()V",
-                                            "onDestroy ()V"]),
+    "activity": ("Landroid/app/Activity;", [CREATE, "onStart ()V", "onResume ()V", "onPause ()V", "onStop ()V",
+                                            "onRestart ()V", "onDestroy ()V"]),
     "service": ("Landroid/app/Service;", ["onCreate ()V", "onStartCommand (Landroid/content/Intent;II)I",
                                           "onBind (Landroid/content/Intent;)Landroid/os/IBinder;", "onDestroy ()V"]),
     "receiver": ("Landroid/content/BroadcastReceiver;", ["onReceive (Landroid/content/Context;Landroid/content/Intent;)V"]),
@@ -46,31 +46,40 @@ class Method:
 
 
 # ---- the part that is written as text
+def if_there(field, get, call):
+    """Calls a method of the lock that a field holds, if it holds one."""
+    return f"{get} {field}\nif-eqz v0 end\n{call}end:\nreturn-void\n"
+
+
+ACQUIRE, RELEASE = "invoke-virtual v0 WL->acquire()V\n", "invoke-virtual v0 WL->release()V\n"
+IF_HELD = "invoke-virtual v0 WL->isHeld()Z\nmove-result v1\nif-eqz v1 end\n"
+
+
 def helpers():
     """A class with static locks, each with a method that makes, one that acquires and one that releases."""
-    text = "class Lapp/Locks; Ljava/lang/Object;\n"
-    text += "".join(f"field w{k} WL static\n" for k in range(STATIC_LOCKS))
+    text = "class Lapp/Locks; Ljava/lang/Object;\n" + "".join(f"field w{k} WL static\n" for k in range(STATIC_LOCKS))
     for k in range(STATIC_LOCKS):
         field = f"Lapp/Locks;->w{k}:WL"
         mode = f"const/4 v1 0\nsget-object v0 {field}\ninvoke-virtual v0,v1 WL->setReferenceCounted(Z)V\n" if k == 1 else ""
-        text += f"method make{k} ({CONTEXT})V 4 static\nsget-object v0 {field}\nif-nez v0 end\nmake v3 {field}\n{mode}end:\nreturn-void\n"
-        text += f"method take{k} ()V 1 static\nsget-object v0 {field}\nif-eqz v0 end\ninvoke-virtual v0 WL->acquire()V\nend:\nreturn-void\n"
-        text += (f"method free{k} ()V 2 static\nsget-object v0 {field}\nif-eqz v0 end\ninvoke-virtual v0 WL->isHeld()Z\nmove-result v1\n"
-                 f"if-eqz v1 end\ninvoke-virtual v0 WL->release()V\nend:\nreturn-void\n")
-    return text
+        text += f"method make{k} ({CONTEXT})V 4 static\nsget-object v0 {field}\nif-nez v0 end\nmake v3 {field}\n{mode}"
+        text += "end:\nreturn-void\n"
+        text += f"method take{k} ()V 1 static\n" + if_there(field, "sget-object v0", ACQUIRE)
+        text += f"method free{k} ()V 2 static\n" + if_there(field, "sget-object v0", IF_HELD + RELEASE)
+    outside = f"Landroid/ext/Outside;->context(){CONTEXT}"
+    return text + f"method context (){CONTEXT} 1 static\ninvoke-static {outside}\nmove-result-object v0\nreturn-object v0\n"
 
 
 def own_lock(name):
     """The instance lock of a component with its methods."""
     field = f"{name}->own:WL"
     return (f"method makeOwn ({CONTEXT})V 5 private\nmake v4 {field} v3\nreturn-void\n"
-            f"method takeOwn ()V 2 private\niget-object v0,v1 {field}\nif-eqz v0 end\ninvoke-virtual v0 WL->acquire()V\nend:\nreturn-void\n"
-            f"method freeOwn ()V 2 private\niget-object v0,v1 {field}\nif-eqz v0 end\ninvoke-virtual v0 WL->release()V\nend:\nreturn-void\n")
+            + "method takeOwn ()V 2 private\n" + if_there(field, "iget-object v0,v1", ACQUIRE)
+            + "method freeOwn ()V 2 private\n" + if_there(field, "iget-object v0,v1", RELEASE))
 
 
 def calls_of_locks(name, callback, lock, owns):
     """What a callback does to locks before and after its work; v1 is `this`, v0 a context."""
-    context = ("invoke-static Lapp/Locks;->context()Landroid/content/Context;\nmove-result-object v0\n")
+    context = f"invoke-static Lapp/Locks;->context(){CONTEXT}\nmove-result-object v0\n"
     before, after = "", ""
     if callback in ("onCreate", "onReceive", "run"):
         before += context + f"invoke-static v0 Lapp/Locks;->make{lock}({CONTEXT})V\n"
@@ -104,8 +113,7 @@ def component(kind, number, work):
 
 def components(work):
     """Their classes as text, and their list."""
-    text = helpers() + (f"method context ()Landroid/content/Context; 1 static\ninvoke-static Landroid/ext/Outside;->context()Landroid/content/Context;\n"
-                        "move-result-object v0\nreturn-object v0\n")
+    text = helpers()
     rows = ""
     for kind, count in COUNTS.items():
         for number in range(count):
@@ -132,7 +140,8 @@ class Application:
         for owner in [OBJECT, *self.thrown, *self.outside]:
             self.constructors[owner] = Method((owner, "<init>", ("V", ())), "direct")
         self.common = [Method((OBJECT, name, proto), "virtual") for name, proto in COMMON]
-        self.methods = [Method((pick(self.outside), f"m{n}", self.proto()), pick(["virtual"] * 3 + ["static"])) for n in range(2_500)]
+        calls = ["virtual"] * 3 + ["static"]
+        self.methods = [Method((pick(self.outside), f"m{n}", self.proto()), pick(calls)) for n in range(2_500)]
 
     def value_type(self):
         x = toss()
@@ -211,8 +220,8 @@ class Application:
         """The application as bodies of a package see it."""
         package = self.packages[number]
         later = [method for other in self.packages[number + 1:] for method in other.methods]
-        view = types.SimpleNamespace(table=self.table, constructors=self.constructors, thrown=self.thrown, arrays=self.arrays,
-                                     literals=self.literals)
+        view = types.SimpleNamespace(table=self.table, constructors=self.constructors, thrown=self.thrown,
+                                     arrays=self.arrays, literals=self.literals)
         # half of the calls prefer those in front
         view.methods = package.methods * 3 + self.methods + self.common * 20 + later
         view.instance_fields = [field for field, is_static in self.fields if not is_static]
