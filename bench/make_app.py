@@ -33,8 +33,6 @@ STEPS = "".join(f"move v{i % 16} v{(i * 5 + 3) % 16}\n" for i in range(20))
 MAKE = "sget-object v0 {0}->wl:WL\nif-nez v0 made\nmake v4 {0}->wl:WL\nmade:\n"
 TAKE, FREE = ("sget-object v0 {0}->wl:WL\ninvoke-virtual v0 WL->%s()V\n" % call for call in ("acquire", "release"))
 OPENING = CALLBACK.format(6) + (MAKE + TAKE).format("Lapp/R;")
-# a method that releases, so that there is a number for that call
-BOTH_CALLS = RECEIVER + "method free ()V 1 static\n" + FREE.format("Lapp/R;") + "return-void\n" + OPENING
 CHAIN = 2_000
 
 
@@ -126,7 +124,8 @@ def switched(count):
         units[at + 1:at + 3] = [offset & 0xFFFF, offset >> 16]
         units += [0x0100, count, 0, 0] + [unit for start in starts for unit in (start & 0xFFFF, start >> 16)]
         return Code(code.registers, code.ins, code.outs, units)
-    return with_units(BOTH_CALLS, finish)
+    free = "method free ()V 1 static\n" + FREE.format("Lapp/R;") + "return-void\n"
+    return with_units(RECEIVER + free + OPENING + "invoke-static Lapp/R;->free()V\n", finish)
 
 
 def looping(count):
@@ -138,7 +137,7 @@ def looping(count):
         units += [0x0138, 5]
         units += far(start - len(units)) + [0x000E]
         return Code(code.registers, code.ins, code.outs, units)
-    return with_units(BOTH_CALLS, finish)
+    return with_units(RECEIVER + OPENING, finish)
 
 
 def made(shape, count):

@@ -70,8 +70,13 @@ pub enum Act {
         wide: bool,
         throws: Throws,
     },
-    /// Makes an array, which comes into the result cell.
-    Fill,
+    /// Makes an object of a type.
+    New {
+        to: u16,
+        kind: u32,
+    },
+    /// Makes an array of these registers, which comes into the result cell.
+    Fill(Args),
     ReadLock {
         to: u16,
         lock: u8,
@@ -83,9 +88,12 @@ pub enum Act {
         throws: Throws,
     },
     /// Into another field or an array.
-    Give(Throws),
+    Give {
+        from: u16,
+        throws: Throws,
+    },
     Check(Throws),
-    Throw,
+    Throw(u16),
     Return(Answer),
     /// By its number among all calls.
     Call(u32),
@@ -97,9 +105,9 @@ impl Act {
             Act::Write { throws, .. }
             | Act::ReadLock { throws, .. }
             | Act::WriteLock { throws, .. }
-            | Act::Give(throws)
+            | Act::Give { throws, .. }
             | Act::Check(throws) => throws,
-            Act::Throw | Act::Call(_) => Throws::ByChoice,
+            Act::Throw(_) | Act::Call(_) => Throws::ByChoice,
             _ => Throws::Never,
         }
     }

@@ -290,6 +290,10 @@ impl Names for InFile<'_, '_> {
         self.app.line(self.app.class_of(class)).find_map(|class| self.app.lock_of.get(&(class, name)).copied())
     }
 
+    fn kind(&self, kind: u16) -> u32 {
+        self.numbers.types[usize::from(kind)]
+    }
+
     fn is_throwable(&self, kind: u32) -> bool {
         self.app.text_of_type(self.numbers.types[kind as usize]) == b"Ljava/lang/Throwable;"
     }

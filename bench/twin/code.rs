@@ -8,6 +8,8 @@ use crate::tag::Tag;
 pub trait Names {
     /// The lock field that an object access finds.
     fn lock(&self, field: u16) -> Option<u8>;
+    /// The type in the application.
+    fn kind(&self, kind: u16) -> u32;
     fn is_throwable(&self, kind: u32) -> bool;
     /// A number for a call of this opcode.
     fn call(&mut self, op: u8, method: u16, args: Args) -> u32;
@@ -15,6 +17,7 @@ pub trait Names {
 
 pub struct Step {
     pub act: Act,
+    pub pc: u32,
     successors: (u32, u32),
     catch: Option<u32>,
 }
@@ -160,7 +163,7 @@ pub fn build(item: &CodeItem, names: &mut impl Names) -> Code {
         while tries.next_if(|(_, found)| found.end <= pc).is_some() {}
         let catch = tries.peek().filter(|(_, found)| found.start <= pc).map(|&(number, _)| number as u32);
         let act = act_of(&item.units[pc as usize..], names);
-        code.steps.push(Step { act, successors: (first, code.successors.len() as u32), catch });
+        code.steps.push(Step { act, pc, successors: (first, code.successors.len() as u32), catch });
     }
     code
 }
@@ -190,10 +193,10 @@ fn act_of(at: &[u16], names: &mut impl Names) -> Act {
         0x1F | 0x26 => Act::Check(Throws::ByChoice),
         0x20 => number(a, false, Throws::Never),
         0x21 => number(a, false, Throws::ByChoice),
-        0x22 => write(aa, Tag::Solid, Throws::Never),
+        0x22 => Act::New { to: aa, kind: names.kind(at[1]) },
         0x23 => write(a, Tag::Solid, Throws::ByChoice),
-        0x24 | 0x25 => Act::Fill,
-        0x27 => Act::Throw,
+        0x24 | 0x25 => Act::Fill(args_of(at, op == 0x25)),
+        0x27 => Act::Throw(aa),
         0x2D..=0x31 => number(aa, false, Throws::Never),
         0x38 => Act::Test { value: aa, zero: 1 },
         0x39 => Act::Test { value: aa, zero: 0 },
@@ -236,14 +239,14 @@ fn access(op: u8, at: &[u16], names: &impl Names) -> Act {
     let null = Throws::WhereNull(b);
     match (op, lock) {
         (0x44..=0x4A, _) => number(aa, op == 0x45, Throws::ByChoice),
-        (0x4B..=0x51, _) => Act::Give(Throws::ByChoice),
+        (0x4B..=0x51, _) => Act::Give { from: aa, throws: Throws::ByChoice },
         (0x52..=0x58, None) => number(a, op == 0x53, null),
         (0x52..=0x58, Some(lock)) => Act::ReadLock { to: a, lock, throws: null },
-        (0x59..=0x5F, None) => Act::Give(null),
+        (0x59..=0x5F, None) => Act::Give { from: a, throws: null },
         (0x59..=0x5F, Some(lock)) => Act::WriteLock { from: a, lock, throws: null },
         (0x60..=0x66, None) => number(aa, op == 0x61, Throws::Never),
         (0x60..=0x66, Some(lock)) => Act::ReadLock { to: aa, lock, throws: Throws::Never },
-        (_, None) => Act::Give(Throws::Never),
+        (_, None) => Act::Give { from: aa, throws: Throws::Never },
         (_, Some(lock)) => Act::WriteLock { from: aa, lock, throws: Throws::Never },
     }
 }

@@ -5,6 +5,7 @@ use crate::app::{App, Usage};
 use crate::components::{Component, Kind};
 use crate::hierarchy::Hierarchy;
 use crate::reach::Calls;
+use crate::scope::Case;
 use crate::solve::Solution;
 use crate::status::HELD;
 use crate::tag::Tag;
@@ -81,16 +82,10 @@ fn owners(app: &App, hierarchy: &Hierarchy, list: &[Component], reached: &[bool]
 }
 
 impl<'a> Subject<'a> {
-    pub fn new(
-        app: &'a App<'a>,
-        hierarchy: &Hierarchy,
-        (graph, calls): (&'a CallGraph, &'a Calls),
-        (list, tags): (&'a [Component], &'a Tags),
-        reached: Vec<bool>,
-    ) -> Subject<'a> {
-        let own: Vec<u64> = (0..app.methods.len() as u32)
-            .map(|method| if reached[method as usize] { acquired(app, tags, method) } else { 0 })
-            .collect();
+    pub fn new(case: Case<'a>) -> Subject<'a> {
+        let Case { app, hierarchy, graph, calls, list, tags, reached } = case;
+        let own = |method: u32| if reached[method as usize] { acquired(app, tags, method) } else { 0 };
+        let own: Vec<u64> = (0..app.methods.len() as u32).map(own).collect();
         let answers = list.iter().map(|component| {
             let below = calls.reach(graph, component.methods.iter().flatten().copied());
             own.iter().zip(below).filter(|(_, reached)| *reached).fold(0, |bits, (own, _)| bits | own)

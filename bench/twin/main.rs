@@ -1,10 +1,10 @@
 //! The analysis of `nosleep` as a plain Rust program, written from docs/analysis.md and docs/formats.md alone: it reads DEX files
-//! and a component list, computes for each lock field the least solution of the flow rules, and writes the violations. It looks for no
-//! fault: neither sums nor ranges of the files are checked, nor is any rule of scope.
+//! and a component list, and computes for each lock field the least solution of the flow rules, and its violations. It looks for no
+//! fault in the files: neither sums nor ranges are checked.
 //!
 //! usage: twin LIST DEX ..
 //!
-//! Writes `time STEP MICROSECONDS` for each step and for each lock, `size` with the numbers of methods, instructions, reached methods and
+//! Writes `rule RULE PC METHOD` where a rule of scope is broken, and then no more; else `time STEP MICROSECONDS` for each step and for each lock, `size` with the numbers of methods, instructions, reached methods and
 //! their instructions, `view LOCK COMPONENT STATE MASK` for each lock and state that may be, and `violation COMPONENT CALLBACK LOCK STATUS`.
 mod act;
 mod app;
@@ -14,6 +14,7 @@ mod dex;
 mod hierarchy;
 mod judge;
 mod reach;
+mod scope;
 mod solve;
 mod status;
 mod tag;
@@ -25,6 +26,7 @@ use components::Component;
 use hierarchy::Hierarchy;
 use judge::{Subject, entries, violations};
 use reach::Calls;
+use scope::{Break, Case};
 use solve::Solution;
 use std::time::Instant;
 use tags::Tags;
@@ -61,6 +63,38 @@ fn solve(subject: &Subject, lock: u8) {
     }
 }
 
+fn write_break(app: &App, (rule, method, pc): Break) {
+    let method = &app.methods[method as usize];
+    let class = app.text_of_type(app.classes[method.class as usize].kind);
+    let names = [class, app.text_of_name(method.name)].map(String::from_utf8_lossy);
+    println!("rule {rule} {pc} {}", names.join("->"));
+}
+
+fn analyse(list: &str, files: &[&[u8]]) {
+    let app = &timed("linked", || App::link(files));
+    let (hierarchy, graph) = &timed("called", || {
+        let hierarchy = Hierarchy::new(app);
+        let graph = CallGraph::new(app, &hierarchy);
+        (hierarchy, graph)
+    });
+    let list = &Component::read_all(app, list);
+    let (calls, reached, tags) = &timed("tagged", || {
+        let calls = Calls::new(app, graph);
+        let reached = calls.reach(graph, entries(list));
+        let tags = Tags::least(app, graph, &calls, list, &reached);
+        (calls, reached, tags)
+    });
+    write_sizes(app, reached);
+    let subject = timed("subject", || {
+        let case = Case { app, hierarchy, graph, calls, list, tags, reached: reached.clone() };
+        case.first_break().map_or_else(|| Ok(Subject::new(case)), Err)
+    });
+    match subject {
+        Ok(subject) => (0..app.locks.len() as u8).for_each(|lock| solve(&subject, lock)),
+        Err(broken) => write_break(app, broken),
+    }
+}
+
 fn main() -> std::io::Result<()> {
     let words: Vec<_> = std::env::args().skip(1).collect();
     let [list, files @ ..] = words.as_slice() else {
@@ -69,23 +103,6 @@ fn main() -> std::io::Result<()> {
     let list = std::fs::read_to_string(list)?;
     let files = files.iter().map(std::fs::read).collect::<Result<Vec<_>, _>>()?;
     let files: Vec<_> = files.iter().map(Vec::as_slice).collect();
-    let app = timed("linked", || App::link(&files));
-    let (hierarchy, graph) = timed("called", || {
-        let hierarchy = Hierarchy::new(&app);
-        let graph = CallGraph::new(&app, &hierarchy);
-        (hierarchy, graph)
-    });
-    let list = Component::read_all(&app, &list);
-    let (calls, reached, tags) = timed("tagged", || {
-        let calls = Calls::new(&app, &graph);
-        let reached = calls.reach(&graph, entries(&list));
-        let tags = Tags::least(&app, &graph, &calls, &list, &reached);
-        (calls, reached, tags)
-    });
-    write_sizes(&app, &reached);
-    let subject = timed("subject", || Subject::new(&app, &hierarchy, (&graph, &calls), (&list, &tags), reached));
-    for lock in 0..app.locks.len() as u8 {
-        solve(&subject, lock);
-    }
+    analyse(&list, &files);
     Ok(())
 }

@@ -48,8 +48,8 @@ impl Calls {
         reached
     }
 
-    /// Gathers bits of methods over what they reach: what each method gets, and each set.
-    fn gather(&self, graph: &CallGraph, mut bits: Vec<u64>) -> Vec<u64> {
+    /// Gathers bits of methods over what they reach: those that each method gets, and each set.
+    pub fn gather(&self, graph: &CallGraph, mut bits: Vec<u64>) -> (Vec<u64>, Vec<u64>) {
         let mut of_set = vec![0; graph.sets.len()];
         let mut users = vec![Vec::new(); graph.sets.len()];
         for (method, sets) in (0..).zip(&self.used) {
@@ -73,7 +73,7 @@ impl Calls {
                 }
             }
         }
-        of_set
+        (bits, of_set)
     }
 
     /// The lock fields to which what a set's methods reach stores.
@@ -84,6 +84,6 @@ impl Calls {
                 _ => bits,
             })
         };
-        self.gather(graph, app.methods.iter().map(|method| own(&method.code.steps)).collect())
+        self.gather(graph, app.methods.iter().map(|method| own(&method.code.steps)).collect()).1
     }
 }

@@ -135,12 +135,12 @@ impl Effect {
 
     pub fn of(app: &App, act: Act, outside: bool, row: &Row, lock: u8) -> Effect {
         match act {
-            Act::Go | Act::Copy { .. } | Act::TakeResult { .. } | Act::Fill => Effect::new(SAME, NONE),
+            Act::Go | Act::Copy { .. } | Act::TakeResult { .. } | Act::New { .. } | Act::Fill(_) => Effect::new(SAME, NONE),
             Act::Test { value, zero } => {
                 let tag = row[usize::from(value)];
                 Effect { passes: [0, 1].map(|number| test(tag, lock, number == zero)), throws: NONE }
             }
-            Act::Write { throws, .. } | Act::ReadLock { throws, .. } | Act::Give(throws) | Act::Check(throws) => {
+            Act::Write { throws, .. } | Act::ReadLock { throws, .. } | Act::Give { throws, .. } | Act::Check(throws) => {
                 let (passes, fails) = by_throws(throws, row, lock);
                 Effect::new(passes, fails)
             }
@@ -149,7 +149,7 @@ impl Effect {
                 let change = if own == lock { stored(row[usize::from(from)]) } else { SAME };
                 Effect::new(then(passes, change), fails)
             }
-            Act::Throw => Effect::new(NONE, SAME),
+            Act::Throw(_) => Effect::new(NONE, SAME),
             Act::Return(_) => Effect::new(NONE, NONE),
             Act::Call(number) => {
                 let (passes, throws) = call(&app.calls[number as usize], outside, row, lock);

@@ -85,7 +85,8 @@ fn after(act: Act, row: &Row) -> Vec<Tag> {
         }
         Act::TakeResult { to } => row[usize::from(to)] = row[result],
         Act::Write { to, tag, wide, .. } => put(&mut row, to, wide, (tag, tag)),
-        Act::Fill => row[result] = Tag::Solid,
+        Act::New { to, .. } => row[usize::from(to)] = Tag::Solid,
+        Act::Fill(_) => row[result] = Tag::Solid,
         Act::ReadLock { to, lock, .. } => row[usize::from(to)] = Tag::Field(lock),
         Act::WriteLock { from, lock, .. } => store(&mut row, from, lock),
         _ => {}
@@ -271,7 +272,7 @@ impl<'a> Flow<'a> {
             Act::Call(number) => self.visit_call(place, number, &row),
             Act::Return(answer) => self.visit_return(method, answer, &row),
             act => {
-                if !matches!(act, Act::Throw) {
+                if !matches!(act, Act::Throw(_)) {
                     self.goes_on(place, &after(act, &row));
                 }
                 if !matches!(act.throws(), Throws::Never) {
