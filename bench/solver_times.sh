@@ -19,7 +19,7 @@ make_workspace solver_times \
 export PYTHONDONTWRITEBYTECODE=1
 if [ $# -eq 0 ]; then
     set -- chain-2000 chain-8000 falling-2000 falling-8000 cycle-2000 cycle-8000 shared-16 shared-64 switch-2500 switch-10000 \
-        loop-25000 loop-100000 backward-250 backward-1000 real-6750 real-27000
+        loop-25000 loop-100000 backward-250 backward-1000 sequence-500 sequence-2000 real-6750 real-27000
 fi
 for shape in "$@"; do
     python3 "$top/bench/make_app.py" "${shape%-*}" "${shape#*-}" "$work/$shape.dex" "$work/$shape.toml"
