@@ -12,9 +12,10 @@ from dex_bodies import Body
 from dex_writer import Class, Ids, lay_out
 from draw import below, early, pick, rng, toss
 
-PACKAGES, DEAD = 60, 10
+# callbacks call methods of the first so many packages
+PACKAGES, CALLED = 60, 50
 CLASS_METHODS = 8.4
-UNITS = 28
+MEAN_UNITS = 12
 PUBLIC, PRIVATE, STATIC, CONSTRUCTOR, INTERFACE, ABSTRACT = 1, 2, 8, 0x10000, 0x200, 0x400
 OBJECT, TEXT, THROWABLE = "Ljava/lang/Object;", "Ljava/lang/String;", "Ljava/lang/Throwable;"
 COMMON = [("toString", (TEXT, ())), ("hashCode", ("I", ())), ("equals", ("Z", (OBJECT,)))]
@@ -248,13 +249,13 @@ def body(view, row, id, flags):
         made.units += [register << 8 | 0x62, view.table.field[pick(view.objects)]]
     if id[1] == "<init>":
         made.invoke(made.units, view.constructors[row.parent], "direct", below(made.low))
-    return made.fill(min(8_000, int(rng.lognormvariate(0, 1.2) * UNITS * 0.42)), toss() < 0.2)
+    return made.fill(min(8_000, int(rng.lognormvariate(0, 1.2) * MEAN_UNITS)), toss() < 0.2)
 
 
 def real_app(count):
     """The bytes of the file, and its list."""
     app = Application(count)
-    text, listed = components(lambda: app.add_work(below(PACKAGES - DEAD)))
+    text, listed = components(lambda: app.add_work(below(CALLED)))
     rows = parse(text)
     app.finish(rows)
     add_bodies(app)
