@@ -14,6 +14,7 @@ import subprocess
 import sys
 import tempfile
 
+import assemble
 import sample_dex
 
 TOP = pathlib.Path(__file__).resolve().parent.parent
@@ -31,12 +32,8 @@ LEAK = b"""report 1 of 2: Lapp/R;->wl is C1 after Lapp/R;->onReceive
 report 2 of 2: Lapp/R;->wl is L after Lapp/R;->onReceive
 """
 R = "Lapp/R;"
-MUTUAL = b"".join(
-    b"report %d of 4: Lapp/R;->wl is %s after Lapp/R;->onReceive\n" % (number, status)
-    for number, status in enumerate((b"C1", b"C2", b"CT", b"L"), 1)
-)
+ACCEPTED = b"accept\n"
 LIST = b'[[component]]\nkind = "receiver"\nclass = "Lapp/R;"\n'
-INNER = b'[[component]]\nkind = "activity"\nclass = "Lapp/A;"\n[[component]]\nkind = "runnable"\nclass = "Lapp/A$1;"\n'
 # A name that no folder takes. Its text is longer than a pipe holds, so that it cannot go in one piece.
 LONG = "\x01" * 30_000
 
@@ -55,17 +52,14 @@ RUNS = [
     ("a text longer than a pipe", ["receiver", LONG, R], None, 5, b"cannot read " + rb"\x01" * len(LONG) + b"\n"),
     ("as many bytes as there may be", ["receiver", "most.dex", R], None, 3, b"bad dex 0 Magic\n"),
     ("one byte more", ["receiver", "more.dex", R], None, 8, b"limit FileBytes\n"),
-    ("a large application", ["receiver", "large.dex", R], None, 3, b"bad dex 0 NotBuilt\n"),
+    ("a large application", ["receiver", "large.dex", R], None, 0, b"accept\n"),
     ("a pipe", ["receiver", "/dev/stdin", R], "leaks.dex", 1, LEAK),
-    ("a pipe of many pieces", ["receiver", "/dev/stdin", R], "large.dex", 3, b"bad dex 0 NotBuilt\n"),
+    ("a pipe of many pieces", ["receiver", "/dev/stdin", R], "large.dex", 0, b"accept\n"),
     ("a pipe that gives too many bytes", ["receiver", "/dev/stdin", R], "more.dex", 8, b"limit FileBytes\n"),
     ("a list", ["verify", "list.toml", "works.dex"], None, 0, b"accept\n"),
     ("a list of a leaking receiver", ["verify", "list.toml", "leaks.dex"], None, 1, LEAK),
     ("a list and no file", ["verify", "list.toml"], None, 4, HELP),
     ("an empty list", ["verify", "/dev/null", "works.dex"], None, 2, b"refused N8 Lapp/R;->onReceive 0 11\n"),
-    ("an activity and its runnable", ["verify", "inner.toml", "inner_class.dex"], None, 0, b"accept\n"),
-    ("a throw that is caught while a lock is held", ["receiver", "thrown_leaks.dex", R], None, 1, LEAK),
-    ("methods that call each other while they hold", ["receiver", "mutual_holds.dex", R], None, 1, MUTUAL),
     ("as many targets of calls as there may be", ["verify", "/dev/null", "targets.dex"], None, 0, b"accept\n"),
     ("one more", ["verify", "/dev/null", "more_targets.dex"], None, 8, b"limit Targets\n"),
     ("too many cells of tags", ["receiver", "wide.dex", R], None, 8, b"limit TagCells\n"),
@@ -80,6 +74,50 @@ RUNS = [
 ]
 
 
+def reports(callback, *statuses, lock="Lapp/R;->wl"):
+    """The heads of the reports of one lock field after one callback."""
+    return "".join(f"report {number} of {len(statuses)}: {lock} is {status} after {callback}\n"
+                   for number, status in enumerate(statuses, 1)).encode()
+
+
+# Whole applications, those of sample_apps among them: what is shown, the file, the components, the status, and the text.
+USES = [
+    ("no component, and a class without members", "bare", [], 0, ACCEPTED),
+    ("an outside call throws while a lock is held, and the handler returns", "thrown_leaks", ["receiver R"], 1, LEAK),
+    ("each throw comes to a release", "thrown_released", ["receiver R"], 0, ACCEPTED),
+    ("an uncounted lock, acquired at each start and released once", "uncounted_service", ["service S"], 0, ACCEPTED),
+    ("a counted one", "counted_service", ["service S"], 1,
+     reports("Lapp/S;->onDestroy", "C1", "C2", "CT", "L", lock="Lapp/S;->wl")),
+    ("each resume makes a new lock and releases the last one", "renewing_activity", ["activity A"], 0, ACCEPTED),
+    ("a runnable releases the activity's lock through a getter", "inner_class", ["activity A", "runnable A$1"], 0, ACCEPTED),
+    ("a call that may store comes between the read and the release", "locks", ["receiver Renews"], 2,
+     b"refused N4 Lapp/Renews;->onReceive 2 5\n"),
+    ("methods call each other while they hold", "mutual_holds", ["receiver R"], 1,
+     reports("Lapp/R;->onReceive", "C1", "C2", "CT", "L")),
+    ("methods call each other after they released", "mutual_frees", ["receiver R"], 0, ACCEPTED),
+    ("a service ends while another one holds", "two_services", ["service S", "service T"], 1,
+     reports("Lapp/S;->onDestroy", "C1", lock="Lapp/W;->wl")),
+    ("a callback that calls native code", "calls_out", ["receiver NativeCall"], 2, b"refused N1 Lapp/NativeCall;->onReceive 6 1\n"),
+    ("a class by its name", "calls_out", ["receiver Reflects"], 2, b"refused N2 Lapp/Reflects;->onReceive 9 2\n"),
+    ("an object of a class below a thread's", "calls_out", ["receiver MakesThread"], 2, b"refused N3 Lapp/MakesThread;->onReceive 13 0\n"),
+    ("a class initialises its lock field", "initialises", ["receiver R"], 0, ACCEPTED),
+    ("64 lock fields that nothing touches", "locks64", [], 0, ACCEPTED),
+    ("65 of them", "locks65", [], 8, b"limit Locks\n"),
+]
+
+
+def component(row):
+    """The text of a row of a list."""
+    kind, name = row.split()
+    return f'[[component]]\nkind = "{kind}"\nclass = "Lapp/{name};"\n'
+
+
+def is_use_wrong(program, folder, shows, file, rows, status, text):
+    """Whether an application under a list is answered otherwise than it should be."""
+    (folder / "use.toml").write_text("".join(map(component, rows)))
+    return differs(shows, run(program, ["verify", "use.toml", f"{file}.dex"], folder), status, text)
+
+
 def lay_out(folder):
     """The files that the runs name."""
     for name, body in (("works", "worked"), ("leaks", "leaks")):
@@ -90,9 +128,12 @@ def lay_out(folder):
         with open(folder / f"{name}.dex", "wb") as file:
             file.truncate(size)
     (folder / "list.toml").write_bytes(LIST)
-    (folder / "inner.toml").write_bytes(INNER)
-    for name in ("inner_class", "thrown_leaks", "mutual_holds", "wide"):
-        shutil.copy(TOP / f"crates/sample_apps/data/{name}.dex", folder)
+    for file in (TOP / "crates/sample_apps/data").glob("*.dex"):
+        shutil.copy(file, folder)
+    for count in (64, 65):
+        fields = "".join(f"field f{number} WL static\n" for number in range(count))
+        (folder / f"locks{count}.dex").write_bytes(assemble.assemble(f"class Lapp/L; Ljava/lang/Object;\n{fields}"))
+    (folder / "bare.dex").write_bytes(assemble.assemble("class Lapp/E; Ljava/lang/Object;\n"))
     for name, size in (("most", LIST_LIMIT), ("more", LIST_LIMIT + 1)):
         (folder / f"{name}.toml").write_bytes(LIST + b"#" * (size - len(LIST)))
     for name, count in (("targets", TARGETS), ("more_targets", TARGETS + 1)):
@@ -139,6 +180,8 @@ def main():
         for shows, words, given, status, text in RUNS:
             fed = (folder / given).read_bytes() if given else b""
             wrong |= differs(shows, run(program, words, folder, fed), status, text)
+        for use in USES:
+            wrong |= is_use_wrong(program, folder, *use)
     if wrong:
         sys.exit(f"{program} runs otherwise than it should")
     print("all real runs ended and wrote as they should")
