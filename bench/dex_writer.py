@@ -120,7 +120,8 @@ class Data:
                 self.align()
             offsets.append(self.here())
             self.bytes += item
-        self.sections.append((kind, len(items), offsets[0]))
+        if offsets:
+            self.sections.append((kind, len(offsets), offsets[0]))
         return offsets
 
 
