@@ -34,7 +34,6 @@ use Rattle.flow_model.specs.InScope.{IsInScope, candidate_of}
 use Rattle.flow_model.specs.Policy.{AreViolations, MeetsPolicy, none_given}
 use Rattle.flow_model.specs.Rules.{Rules}
 use Rattle.flow_model.specs.TagFlow.{IsTagTableOf}
-use Rattle.report_text.specs.Heads.{heads_text}
 use Rattle.run_model.specs.Machine.{run_of}
 use Rattle.run_model.specs.Soundness.{LeavesNoneHeld, StandsWell}
 use Rattle.scope_check.specs.Causes.{IsCause}

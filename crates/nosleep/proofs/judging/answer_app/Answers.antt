@@ -1,4 +1,4 @@
-use Rattle.std.proofs.Common.{rules, ◌≡◌, refl, Ok}
+use Rattle.std.proofs.Common.{refl, Ok}
 use Rattle.component_list.specs.Binding.{bound_of}
 use Rattle.nosleep.specs.Files.{unbound}
 use Rattle.nosleep.proofs.Judgements.{list_outcome}
