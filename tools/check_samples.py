@@ -28,7 +28,8 @@ print("the stored sample is the same in all three places")
 data = write_samples.data
 texts = sorted(data.glob("*.txt"))
 for text in texts:
-    if assemble.assemble(text.read_text()) != text.with_suffix(".dex").read_bytes():
+    made = text.with_suffix(".dex")
+    if not made.exists() or assemble.assemble(text.read_text()) != made.read_bytes():
         sys.exit(f"{text} differs from the file that was made of it: run tools/write_samples.py")
 if write_samples.samples.read_text() != write_samples.written():
     sys.exit(f"{write_samples.samples} has other digits than {data}: run tools/write_samples.py")
