@@ -186,7 +186,8 @@ class Application:
         fresh = [(f"{pick(['get', 'set', 'load', 'show'])}{n}", self.proto()) for n in range(count)]
         statics = int(count * 0.3)
         self.put(package, row, fresh[:statics], "static")
-        self.put(package, row, list(dict.fromkeys(kept + fresh[statics:])), "virtual")
+        others = [own for own in kept + fresh[statics:] if own not in fresh[:statics]]
+        self.put(package, row, list(dict.fromkeys(others)), "virtual")
 
     def put(self, package, row, names, call):
         flags = {"static": PUBLIC | STATIC, "virtual": PUBLIC, "interface": PUBLIC | ABSTRACT}[call]

@@ -16,30 +16,34 @@ mod words;
 mod writing;
 
 use adapters::{FileShelf, Output};
-use ns_base::number;
+use ns_base::{Exit, number};
 use std::alloc::AllocError;
 use std::env;
+use std::io::ErrorKind;
 use std::process::ExitCode;
 use std::rt::Env;
 
 fn main(rt: HostRuntime) -> ExitCode {
-    let words = words_of(&rt);
+    let Ok(words) = words_of(&rt) else {
+        return ExitCode::from(number(Exit::Memory));
+    };
     let mut shelf = FileShelf::new(rt.alloc(), &rt);
     let mut out = Output::new(&rt);
     let mut watchers = Vec::new(rt.alloc());
     ExitCode::from(number(top::nosleep(rt.alloc(), &words, &mut shelf, &mut out, &mut watchers)))
 }
 
-// The words of the command line but the program's own name. Where one is no text, or memory runs out,
-// there are none, which is no form.
-fn words_of(rt: &(impl Env + AllocGlobal)) -> Vec<String> {
+// The words of the command line but the program's own name. Where one is no text there are none, which is no form.
+fn words_of(rt: &(impl Env + AllocGlobal)) -> Result<Vec<String>, AllocError> {
     let mut words = Vec::new(rt.alloc());
-    if let Ok(all) = env::args(rt) {
-        for word in all.skip(1) {
-            if words.push(word).is_err() {
-                return Vec::new(rt.alloc());
+    match env::args(rt) {
+        Ok(all) => {
+            for word in all.skip(1) {
+                words.push(word)?;
             }
         }
+        Err(error) if error.kind() == ErrorKind::OutOfMemory => return Err(AllocError),
+        Err(_) => {}
     }
-    words
+    Ok(words)
 }
