@@ -7,6 +7,7 @@ pub mod Begin
 pub mod Loops
 pub mod Masks
 pub mod Spots
+pub mod Running
 pub mod Settled
 pub mod Entered
 pub mod Parts

@@ -41,6 +41,11 @@ place_within k s spot r state is lt =
     let fits = row_fits spot.index spot.width (code_len k.app spot.method.0) spot.width is.index (omega arith) in
     rw (cells_there k s spot state is) (omega (arith, fits, lt))
 
+pub row_within : (k : KnownParts) (s : StateParts) (spot : Spot) → IsState k s → IsSpot k spot → spot.start + spot.width ≤ cells_len s.table spot.method.0
+row_within k s spot state is =
+    let fits = row_fits spot.index spot.width (code_len k.app spot.method.0) spot.width is.index (omega arith) in
+    rw (cells_there k s spot state is) (omega (arith, fits, is.start))
+
 pub place_tag : (k : KnownParts) (s : StateParts) (spot : Spot) (r : ℕ) → IsState k s → IsSpot k spot → r < spot.width → tag_in (row_of s spot) r ≡ tag_there s.table spot.method.0 (spot.index * spot.width + r)
 place_tag k s spot r state is lt =
     let w : width_at s.table spot.method.0 ≡ spot.width = table_width k s spot.method.0 state ∙ sym is.width in

@@ -1,5 +1,5 @@
 -- What is done where a part of the work changes nothing.
-use Rattle.std.specs.Prelude.{ℕ, ◌≡◌, ◌<◌, true, List, Contains, length, pred, Some, slice_get}
+use Rattle.std.specs.Prelude.{ℕ, ◌≡◌, ◌<◌, ◌≤◌, true, List, Contains, length, pred, Some, slice_get}
 use Rattle.ns_base.specs.declared.rows.MethodNo.{MethodNo}
 use Rattle.dalvik.specs.declared.ins.Args.{Args}
 use Rattle.app_model.specs.CallGraph.{callees_at, outside_at}
@@ -29,6 +29,10 @@ use Rattle.tag_rows.specs.Changes.{changed}
 -- for each number below a bound
 abbrev pub Below : (ℕ → StateParts → Type 0) → (bound : ℕ) → StateParts → Type 0
 Below part bound s = (x : ℕ) → x < bound → part x s
+
+-- for each number from one on, below a bound
+abbrev pub Between : (ℕ → StateParts → Type 0) → (start bound : ℕ) → StateParts → Type 0
+Between part start bound s = (x : ℕ) → start ≤ x → x < bound → part x s
 
 -- a row that lies under the one at instruction j of method m, in one cell
 abbrev pub CellUnder : KnownParts → (m j : ℕ) → (StateParts → List Tag) → (r : ℕ) → StateParts → Type 0

@@ -22,6 +22,7 @@ use Rattle.tag_flow.specs.declared.known.Spot.{Spot}
 use Rattle.tag_rows.specs.declared.change.Change.{Change}
 use Rattle.tag_rows.specs.declared.change.Change.TheVariants.{After, Thrown, Past, Out}
 use Rattle.tag_flow.specs.declared.passing.Step.{Step}
+use Rattle.tag_rows.specs.declared.runs.Pair.{Pair}
 use Rattle.tag_rows.specs.Changes.{Keeps}
 use Rattle.tag_rows.specs.Cells.{Grows}
 use Rattle.tag_flow.specs.Known.{IsClosed, KnownParts, is_gone}
@@ -51,6 +52,10 @@ pub record IsStep (k : KnownParts) (s : StateParts) (step : Step) : Type 0 where
   pub method : step.to.method ≡ step.from.method
   pub leads : Leads k step.from.method.0 step.from.index step.to.index step.change
   pub kept : Keeps step.change step.from.width step.kept
+
+-- its two rows
+abbrev pub pair_of : Step → Pair
+pair_of step = record { from = step.from.start; to = step.to.start; width = step.from.width; kept = step.kept }
 
 -- the first instruction of a callee, and of a callback
 pub record Enters (k : KnownParts) (from : Spot) (handing : Handing) (to : Spot) : Type 0 where

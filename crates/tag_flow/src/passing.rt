@@ -1,14 +1,13 @@
 //! What flows from an instruction to its successors and handlers.
-ghost use Rattle.std.specs.Prelude.{ℕ, ◌≡◌, ◌<◌, true, Some};
+ghost use Rattle.std.specs.Prelude.{ℕ, ◌≡◌, ◌<◌, ◌≤◌, Some};
 ghost use Rattle.app_model.specs.Words.{handler_at, successor_at};
-ghost use Rattle.act_model.specs.Changes.{tag_in};
-ghost use Rattle.tag_flow.specs.State.{IsSource, IsState, row_of};
+ghost use Rattle.tag_flow.specs.State.{IsSource};
 ghost use Rattle.tag_flow.specs.Turns.{IsStep, Leads, Turn};
-ghost use Rattle.tag_flow.specs.Goals.{AllHandled, AllSucceeded, CellUnder, Handled, RowPassed, Succeeded, row_after};
+ghost use Rattle.tag_flow.specs.Goals.{AllHandled, AllSucceeded, Between, CellUnder, Handled, RowPassed, Succeeded, row_after};
 
 use crate::known::{Known, Spot};
 use crate::state::State;
-use tag_rows::{Change, Kept, change_tag, kept_by};
+use tag_rows::{Change, Kept, Run, change_tag, kept_by};
 
 /// A change that flows from an instruction to another one of its method.
 #[derive(Clone, Copy)]
@@ -17,22 +16,6 @@ pub(crate) struct Step {
     pub to: Spot,
     pub change: Change,
     pub kept: Kept,
-}
-
-// Whether the change keeps a register's tag.
-fn keeps(known: &Known, state: &State, step: &Step, register: usize) -> bool
-    requires step { IsStep known.now state.now step.now }
-    requires register { register < step.now.from.width }
-    ensures { result ≡ true → tag_in (row_of state.now step.now.from) register ≡ tag_in (row_after step.now.from.method.0 step.now.from.index step.now.change state.now) register }
-{
-    let kept = step.kept;
-    if register == kept.first || register == kept.second {
-        return false;
-    }
-    if !kept.plain {
-        return true;
-    }
-    state.is_plain(known, step.from, register)
 }
 
 // One cell, by its tag.
@@ -46,16 +29,35 @@ fn pass_tag(known: &Known, state: &mut State, step: &Step, register: usize) -> b
     state.join(known, step.to, register, tag)
 }
 
-fn pass_cell(known: &Known, state: &mut State, step: &Step, register: usize) -> bool
+// The cells of registers from a first one on, up to one whose tag the change does not keep.
+fn pass_kept(known: &Known, state: &mut State, step: &Step, start: usize) -> Run
     requires step { IsStep known.now state.old step.now }
-    requires register { register < step.now.from.width }
-    ensures { Turn known.now (CellUnder known.now step.now.from.method.0 step.now.to.index (row_after step.now.from.method.0 step.now.from.index step.now.change) register) state.old state.new result }
+    requires start { start ≤ step.now.from.width }
+    ensures turn { Turn known.now (Between (CellUnder known.now step.now.from.method.0 step.now.to.index (row_after step.now.from.method.0 step.now.from.index step.now.change)) start result.end) state.old state.new result.changed }
+    ensures end { result.end ≤ step.now.from.width }
+    ensures later { start ≤ result.end }
 {
     known.told();
-    if keeps(known, state, step, register) {
-        return state.join_same(known, step.from, step.to, register);
+    state.join_run(known, step, start)
+}
+
+// The same, and that one.
+fn pass_part(known: &Known, state: &mut State, step: &Step, start: usize) -> Run
+    requires step { IsStep known.now state.old step.now }
+    requires start { start < step.now.from.width }
+    ensures turn { Turn known.now (Between (CellUnder known.now step.now.from.method.0 step.now.to.index (row_after step.now.from.method.0 step.now.from.index step.now.change)) start result.end) state.old state.new result.changed }
+    ensures end { result.end ≤ step.now.from.width }
+    ensures later { start < result.end }
+{
+    let run = pass_kept(known, state, step, start);
+    if run.end == step.from.width {
+        return run;
     }
-    pass_tag(known, state, step, register)
+    let changed = pass_tag(known, state, step, run.end);
+    Run {
+        end: run.end + 1,
+        changed: run.changed | changed,
+    }
 }
 
 fn pass_cells(known: &Known, state: &mut State, step: &Step) -> bool
@@ -63,8 +65,11 @@ fn pass_cells(known: &Known, state: &mut State, step: &Step) -> bool
     ensures { Turn known.now (RowPassed known.now step.now.from.method.0 step.now.to.index (row_after step.now.from.method.0 step.now.from.index step.now.change)) state.old state.new result }
 {
     let mut changed = false;
-    for register in 0..step.from.width {
-        changed |= pass_cell(known, state, step, register);
+    let mut register = 0;
+    while register < step.from.width {
+        let part = pass_part(known, state, step, register);
+        changed |= part.changed;
+        register = part.end;
     }
     changed
 }

@@ -3,16 +3,18 @@ ghost use Rattle.std.specs.Prelude.{◌≡◌, ◌<◌, ◌≤◌, ◌+◌, ◌*
 ghost use Rattle.act_model.specs.Changes.{tag_in};
 ghost use Rattle.flow_model.specs.TagFlow.{IsLive};
 ghost use Rattle.tag_rows.specs.Cells.{IsTagOf, Joins};
-ghost use Rattle.tag_rows.specs.Changes.{is_plain};
+ghost use Rattle.tag_rows.specs.Runs.{Runs};
 ghost use Rattle.tag_flow.specs.State.{IsSpot, IsState, answer_of, row_of};
+ghost use Rattle.tag_flow.specs.Turns.{IsStep, pair_of};
 
 use crate::agenda::{Agenda, Place};
 use crate::known::{Known, Spot};
+use crate::passing::Step;
 use act_model::Row;
 use app_model::{Tag, TagTable};
 use ns_base::MethodNo;
 use std::marker::Model;
-use tag_rows::{RowAt, Rows, is_plain_cell};
+use tag_rows::{Pair, RowAt, Rows, Run};
 
 /// The table, and beside it one of one row, with a cell for each method. The agenda has places worth a look; no
 /// contract speaks of it.
@@ -87,17 +89,6 @@ impl State {
         false
     }
 
-    /// Whether a register has a plain tag before an instruction.
-    pub fn is_plain(&self, known: &Known, spot: Spot, register: usize) -> bool
-        requires state { IsState known.now self.now }
-        requires spot { IsSpot known.now spot }
-        requires register { register < spot.width }
-        ensures { result ≡ true → is_plain (tag_in (row_of self.now spot) register) ≡ true }
-    {
-        known.told();
-        is_plain_cell(self.rows.cell(spot.method, place_of(spot, register)))
-    }
-
     /// Joins a tag into the cell of a register before an instruction.
     pub fn join(&mut self, known: &Known, spot: Spot, register: usize, tag: Tag) -> bool
         requires state { IsState known.now self.old }
@@ -111,22 +102,24 @@ impl State {
         self.rows.join(spot.method, place_of(spot, register), tag)
     }
 
-    /// Joins the tag of a register before one instruction into its cell before another one of the method.
-    pub fn join_same(&mut self, known: &Known, from: Spot, to: Spot, register: usize) -> bool
-        requires state { IsState known.now self.old }
-        requires from { IsSpot known.now from }
-        requires to { IsSpot known.now to }
-        requires method { to.method ≡ from.method }
-        requires register { register < from.width }
-        ensures joins { Joins self.old.table to.method.0 (to.index * to.width + register) (tag_in (row_of self.old from) register) self.new.table result }
+    /// Joins the tags of registers, from a first one on, into their cells where a step leads; up to one that flows as
+    /// another tag.
+    pub fn join_run(&mut self, known: &Known, step: &Step, start: usize) -> Run
+        requires step { IsStep known.now self.old step.now }
+        requires start { start ≤ step.now.from.width }
+        ensures runs { Runs (pair_of step.now) step.now.from.method.0 start self.old.table result.end self.new.table result.changed }
+        ensures end { result.end ≤ step.now.from.width }
+        ensures later { start ≤ result.end }
         ensures answers { self.new.answers ≡ self.old.answers }
     {
         known.told();
-        self.rows.join_cell(
-            from.method,
-            place_of(from, register),
-            place_of(to, register),
-        )
+        let pair = Pair {
+            from: step.from.start,
+            to: step.to.start,
+            width: step.from.width,
+            kept: step.kept,
+        };
+        self.rows.join_run(step.from.method, &pair, start)
     }
 
     /// Adds an instruction to the agenda, where its row changed.

@@ -7,3 +7,4 @@ pub mod Keeping
 pub mod Numbered
 pub mod Words
 pub mod Plain
+pub mod Running

@@ -3,3 +3,4 @@ pub mod Cells
 pub mod Entering
 pub mod Sites
 pub mod Changes
+pub mod Runs

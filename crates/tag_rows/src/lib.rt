@@ -1,6 +1,7 @@
 //! Rows of tags while a table of them is made: what is joined into a cell, and what flows from a row.
 //!
 //! - `rows` has the cells of all methods, and joins into one.
+//! - `runs` joins cells of one row into those of another one.
 //! - `change` is what flows from an instruction of its row.
 //! - `starts` has the rows at a method's start.
 //! - `sites` numbers the calls that make a lock.
@@ -11,12 +12,14 @@ mod chains;
 mod change;
 mod queue;
 mod rows;
+mod runs;
 mod sites;
 mod starts;
 
 pub use chains::{Chains, number_of};
 pub use change::{Change, Kept, change_tag, kept_by};
 pub use queue::{Queue, WORD};
-pub use rows::{RowAt, Rows, is_plain_cell};
+pub use rows::{RowAt, Rows};
+pub use runs::{Pair, Run};
 pub use sites::{Site, find_sites, is_make, makes_lock, site_of};
 pub use starts::{callback_tag, called_tag, entering};

@@ -2,23 +2,13 @@
 ghost use Rattle.std.specs.Prelude.{◌≡◌, ◌<◌, ◌+◌, ◌≤◌, ◌^◌, [], length, map, slice_index_or, true};
 ghost use Rattle.app_model.specs.TagTable.{HasCell, IsTagTable, cell_at, cell_count, tag_of, width_at, with_cell};
 ghost use Rattle.tag_rows.specs.Cells.{Joins, cells_len, tag_there};
-ghost use Rattle.tag_rows.specs.Changes.{is_plain};
+ghost use Rattle.tag_rows.specs.Runs.{Runs};
 
+use crate::runs::{Pair, Run, join_run};
 use act_model::{Row, join};
 use app_model::{Tag, TagTable};
 use ns_base::MethodNo;
 use std::marker::Model;
-
-// No cell of a tag that names a lock field or a site is below this one.
-const NAMED: u16 = 5;
-
-/// Whether the tag of a cell names no lock field and no site.
-#[tactic(auto, using(crate::proofs::Plain::plain_tag))]
-pub fn is_plain_cell(cell: u16) -> bool
-    ensures { result ≡ true → is_plain (tag_of cell) ≡ true }
-{
-    cell < NAMED
-}
 
 /// The cells of each method, as a table of tags has them.
 #[derive(Drop)]
@@ -114,21 +104,17 @@ impl Rows {
         true
     }
 
-    /// Joins the tag of a cell into another cell of the method, and tells whether that changed.
-    pub fn join_cell(&mut self, method: MethodNo, from: usize, to: usize) -> bool
-        requires { to < cells_len self.old method.0 }
-        ensures { Joins self.old method.0 to (tag_there self.old method.0 from) self.new result }
+    /// Joins the tags of registers from a first one on, up to one that does not flow as it is.
+    pub fn join_run(&mut self, method: MethodNo, pair: &Pair, start: usize) -> Run
+        requires from { pair.now.from + pair.now.width ≤ cells_len self.old method.0 }
+        requires to { pair.now.to + pair.now.width ≤ cells_len self.old method.0 }
+        requires some { 0 < pair.now.width }
+        requires start { start ≤ pair.now.width }
+        ensures runs { Runs pair.now method.0 start self.old result.end self.new result.changed }
+        ensures end { result.end ≤ pair.now.width }
+        ensures later { start ≤ result.end }
     {
-        let cell = self.cell(method, from);
-        let before = self.cell(method, to);
-        if cell == before {
-            return false;
-        }
-        if before == 0 {
-            self.put(method, to, cell);
-            return true;
-        }
-        self.join(method, to, Tag::of_cell(cell))
+        join_run(self.cells[method.0 as usize].as_mut_slice(), pair, start)
     }
 }
 

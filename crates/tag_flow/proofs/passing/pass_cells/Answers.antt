@@ -1,9 +1,10 @@
 use Rattle.std.proofs.Common.{arith}
-use Rattle.tag_flow.proofs.Turns.{step_kept, turn_end, turn_more, turn_start}
+use Rattle.tag_flow.proofs.Running.{below_some}
+use Rattle.tag_flow.proofs.Turns.{step_kept, turn_end, turn_start}
 use Rattle.tag_flow.proofs.passing.pass_cells.Goals as goal
 
-pub pass_cell-changed-requires-clause-step : goal.pass_cell-changed-requires-clause-step
-pass_cell-changed-requires-clause-step c =
+pub pass_part-part-requires-clause-step : goal.pass_part-part-requires-clause-step
+pass_part-part-requires-clause-step c =
     step_kept _ _ _ _ _ _ c.loop-register.invariant c.requires.step
 
 pub loop-register-init : goal.loop-register-init
@@ -12,7 +13,7 @@ loop-register-init c =
 
 pub loop-register-preserved : goal.loop-register-preserved
 loop-register-preserved c =
-    turn_more _ _ _ _ _ _ _ _ c.loop-register.invariant c.pass_cell-changed.ensures
+    below_some _ _ _ _ _ _ _ _ _ c.loop-register.invariant c.pass_part-part.ensures.turn
 
 pub returns : goal.returns
 returns c =
