@@ -1,5 +1,5 @@
 //! What is new at each place is led on, callees before what waits for them. It decides what to look at, and promises nothing.
-ghost use Rattle.std.specs.Prelude.{◌≡◌, ◌<◌, true};
+ghost use Rattle.std.specs.Prelude.{◌≡◌, ◌<◌, true, length};
 ghost use Rattle.app_model.specs.Subject.{slot_count};
 ghost use Rattle.solver.specs.Turns.{AreFacts, HasPlace, IsPlace, Keeps, InsideBy};
 
@@ -45,20 +45,40 @@ impl Agenda {
     }
 }
 
-// A word for each instruction of the methods that are reached.
-fn nothing_passed(alloc: Global, task: &Task) -> Result<Vec<Vec<u64>>, AllocError> {
-    let mut passed = Vec::new(alloc);
-    for number in 0..task.method_count() {
-        let method = MethodNo(number);
-        let len = if task.subject.reaches(method) {
-            task.code_len(method)
-        } else {
-            0
-        };
-        let row = vec![in alloc; 0u64; len as usize]?;
-        passed.push(row)?;
+// What is taken as led on at first, by instruction: all but how the method was entered. Where more callbacks begin than at
+// the solution before, only that is new.
+fn passed_row(
+    alloc: Global,
+    task: &Task,
+    solution: &Solution,
+    method: MethodNo,
+) -> Result<Vec<u64>, AllocError>
+    requires facts { AreFacts task.now.subject.now task.now.lock.0 solution.now }
+    requires method { method.0 < length task.now.subject.now.app.methods }
+{
+    if !task.subject.reaches(method) {
+        return Ok(Vec::new(alloc));
     }
-    Ok(passed)
+    let len = task.code_len(method);
+    let mut row = vec![in alloc; 0u64; len as usize]?;
+    for index in 1..len {
+        let word = solution.at_word(method, index);
+        if let Some(passed) = row.get_mut(index as usize) {
+            *passed = word;
+        }
+    }
+    Ok(row)
+}
+
+fn passed_rows(alloc: Global, task: &Task, solution: &Solution) -> Result<Vec<Vec<u64>>, AllocError>
+    requires { AreFacts task.now.subject.now task.now.lock.0 solution.now }
+{
+    let mut rows = Vec::new(alloc);
+    for method in 0..task.method_count() {
+        let row = passed_row(alloc, task, solution, MethodNo(method))?;
+        rows.push(row)?;
+    }
+    Ok(rows)
 }
 
 // Lists a place where a fact was not led on, and tells whether there is one.
@@ -233,7 +253,7 @@ pub fn approach<R: Rows>(
 {
     let mut agenda = Agenda {
         looks: Vec::new(alloc),
-        passed: nothing_passed(alloc, task)?,
+        passed: passed_rows(alloc, task, solution)?,
     };
     list_entered(task, solution, &mut agenda)?;
     // A bounded loop needs no measure.
