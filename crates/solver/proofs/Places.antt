@@ -101,3 +101,12 @@ module _ (x : SubjectParts) (l : ℕ) (t : Facts) where
   pub row_reached : AreFacts x l t → (m i : ℕ) → i < row_len t.code m → is_reached x m ≡ true
   unfolding place_count
   row_reached facts m i lt = ⊎_elim (λ yes. yes) (λ off. absurd (let e = facts.places.code m ∙ ap (λ b. cond b (code_len x.app m) 0) off in omega (arith, e, lt))) (cases_Bool (is_reached x m))
+
+  -- other places: in the same method, and where another one begins
+  pub place_beside : (m i j : ℕ) → HasPlace x l t m i → j < code_len x.app m → HasPlace x l t m j
+  place_beside m i j here lt = record { facts = here.facts; place = record { lock = here.place.lock; method = here.place.method; reached = here.place.reached; index = lt } }
+
+  pub first_place : (m i : ℕ) (n : MethodNo) → HasPlace x l t m i → Contains (callees_at x m i) n → HasPlace x l t n.0 0
+  first_place m i n here called =
+      let reached = callee_reached m i n here called in
+      record { facts = here.facts; place = record { lock = here.place.lock; method = method_there here.facts n.0 reached; reached = reached; index = here.facts.sound.reaches.begins n.0 reached } }

@@ -1,8 +1,9 @@
 -- The rules from the facts of an instruction, whose word is `w`.
-use Rattle.std.proofs.Common.{arith, ◌<◌, ◌≡◌, ℕ, Bool, true, false, [], ◌∷◌, Some, refl, sym, ap, ◌∙◌, List, length, get_or, eqb, subst, Contains, ⊎_elim}
-use Rattle.std.specs.Prelude.{◌||◌}
+use Rattle.std.proofs.Common.{arith, ◌<◌, ◌+◌, ◌*◌, ◌≡◌, ℕ, Bool, true, false, [], ◌∷◌, Some, refl, sym, ap, ◌∙◌, List, length, get_or, eqb, subst, Contains, ⊎_elim}
+use Rattle.std.specs.Prelude.{◌||◌, bit_and}
 use Rattle.std.proofs.lemmas.Bool.{cases_Bool, eqb-true}
 use Rattle.std.proofs.lemmas.List.{get_or_default}
+use Rattle.std.proofs.lemmas.Nat.Bits.{bit_at_and, bit_at-lt}
 use Rattle.ns_base.specs.declared.rows.MethodNo.{MethodNo}
 use Rattle.app_model.specs.Facts.{Fact, At, Ret, Exc}
 use Rattle.app_model.specs.Masks.{in_mask}
@@ -12,7 +13,7 @@ use Rattle.flow_model.specs.Rules.{Inside, I1, I1_return, I2, I3, I3_leaves, C1,
 use Rattle.flow_model.specs.Subject.{own_operation, returns_at}
 use Rattle.solution.specs.Facts.{Facts, holds, Joins}
 use Rattle.solution.specs.Words.{has, IsMask, AreRows, Joined, Itself}
-use Rattle.solution.proofs.Bits.{has_true, none_has}
+use Rattle.solution.proofs.Bits.{has_true, has_from, none_has}
 use Rattle.solver.specs.Turns.{AllMasks, InsideBy, Turn, Every, Follows, HasPlace}
 use Rattle.solver.specs.Visits.{Asked, Opens, IsHere, IsOpenAt, AreThrown, SuccessorPassed, ThrownTo, ThrownOut, Thrown, OwnThrown, Entered, CameBack, ThrewBack, IsCalled, CalleeDone, EachCalled, CallsDone, Returned, IsDone, IsVisited}
 use Rattle.solver.proofs.Turns.{has_all_kept, place_kept, turn_none, turn_joins, turn_next, turn_as}
@@ -189,3 +190,10 @@ module _ (x : SubjectParts) (l : ℕ) where
   -- the word that was read
   pub at_read : (t : Facts) (m i w : ℕ) → HasPlace x l t m i → ((e s : ℕ) → has w e s ≡ holds t (At m e i s)) → IsHere x l t m i w
   at_read t m i w place is = record { place = place; at = λ e s h. sym (is e s) ∙ h }
+
+  -- some of its facts
+  pub part_here : (t : Facts) (m i w part : ℕ) → IsHere x l t m i w → IsHere x l t m i (bit_and w part)
+  part_here t m i w part here = record {
+    place = here.place;
+    at = λ e s h. (let p = has_true (bit_and w part) e s h in let k = 8 * e + s in here.at e s (has_from w e s p.0 p.1 (omega (arith, p.2, bit_at_and w part k, bit_at-lt w k, bit_at-lt part k))));
+  }

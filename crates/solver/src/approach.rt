@@ -1,51 +1,158 @@
-//! Methods in a good order: callees before what calls them. It decides what to look at, and promises nothing.
-ghost use Rattle.std.specs.Prelude.{◌≡◌, ◌<◌, length, true};
-ghost use Rattle.app_model.specs.Subject.{is_reached};
-ghost use Rattle.solver.specs.Turns.{AreFacts, HasPlace, Keeps, InsideBy};
+//! What is new at each place is led on, callees before what waits for them. It decides what to look at, and promises nothing.
+ghost use Rattle.std.specs.Prelude.{◌≡◌, ◌<◌, true, length};
+ghost use Rattle.app_model.specs.Subject.{slot_count};
+ghost use Rattle.solver.specs.Turns.{AreFacts, HasPlace, IsPlace, Keeps, InsideBy};
 
-use crate::sweep::visit_method;
 use crate::task::{Site, Task};
+use crate::visit::visit_part;
 use flow_model::Rows;
 use ns_base::MethodNo;
 use solution::Solution;
 use std::alloc::{AllocError, Global};
 
-/// Methods that are worth a look, and how each was entered at its last one.
+/// A place that is worth a look: at what is new there, or again at all, since its callees came first.
+#[derive(Clone, Copy)]
+struct Look {
+    site: Site,
+    again: bool,
+}
+
+/// What is to be looked at, the next one last, and the facts of each place that were led on.
 #[derive(Drop)]
 struct Agenda {
-    methods: Vec<MethodNo>,
-    seen: Vec<u64>,
+    looks: Vec<Look>,
+    passed: Vec<Vec<u64>>,
 }
 
-fn entries(task: &Task, solution: &Solution, method: MethodNo) -> u64
+impl Agenda {
+    fn passed(&self, site: Site) -> u64 {
+        let Some(row) = self.passed.get(site.method.0 as usize) else {
+            return u64::MAX;
+        };
+        match row.get(site.index as usize) {
+            Some(word) => *word,
+            None => u64::MAX,
+        }
+    }
+
+    fn pass(&mut self, site: Site, word: u64) {
+        let Some(row) = self.passed.get_mut(site.method.0 as usize) else {
+            return;
+        };
+        if let Some(passed) = row.get_mut(site.index as usize) {
+            *passed = word;
+        }
+    }
+}
+
+// What is taken as led on at first, by instruction: all but how the method was entered. Where more callbacks begin than at
+// the solution before, only that is new.
+fn passed_row(
+    alloc: Global,
+    task: &Task,
+    solution: &Solution,
+    method: MethodNo,
+) -> Result<Vec<u64>, AllocError>
     requires facts { AreFacts task.now.subject.now task.now.lock.0 solution.now }
-    requires reached { is_reached task.now.subject.now method.0 ≡ true }
+    requires method { method.0 < length task.now.subject.now.app.methods }
 {
-    solution.at_word(method, 0)
+    if !task.subject.reaches(method) {
+        return Ok(Vec::new(alloc));
+    }
+    let len = task.code_len(method);
+    let mut row = vec![in alloc; 0u64; len as usize]?;
+    for index in 1..len {
+        let word = solution.at_word(method, index);
+        if let Some(passed) = row.get_mut(index as usize) {
+            *passed = word;
+        }
+    }
+    Ok(row)
 }
 
-// Lists a method where it was entered at more statuses than at its last look.
+fn passed_rows(alloc: Global, task: &Task, solution: &Solution) -> Result<Vec<Vec<u64>>, AllocError>
+    requires { AreFacts task.now.subject.now task.now.lock.0 solution.now }
+{
+    let mut rows = Vec::new(alloc);
+    for method in 0..task.method_count() {
+        let row = passed_row(alloc, task, solution, MethodNo(method))?;
+        rows.push(row)?;
+    }
+    Ok(rows)
+}
+
+// Lists a place where a fact was not led on, and tells whether there is one.
 fn list(
     task: &Task,
     solution: &Solution,
     agenda: &mut Agenda,
-    method: MethodNo,
-) -> Result<(), AllocError>
-    requires facts { AreFacts task.now.subject.now task.now.lock.0 solution.now }
-    requires reached { is_reached task.now.subject.now method.0 ≡ true }
+    site: Site,
+) -> Result<bool, AllocError>
+    requires { HasPlace task.now.subject.now task.now.lock.0 solution.now site.method.0 site.index }
 {
-    let place = method.0 as usize;
-    if place >= agenda.seen.len() {
-        return Ok(());
+    let _ = task;
+    let fresh = solution.at_word(site.method, site.index) & !agenda.passed(site);
+    if fresh == 0 {
+        return Ok(false);
     }
-    let word = entries(task, solution, method);
-    if agenda.seen[place] != word {
-        agenda.seen[place] = word;
-        agenda.methods.push(method)?;
+    agenda.looks.push(Look { site, again: false })?;
+    Ok(true)
+}
+
+fn list_successors(
+    task: &Task,
+    solution: &Solution,
+    agenda: &mut Agenda,
+    site: Site,
+) -> Result<(), AllocError>
+    requires { HasPlace task.now.subject.now task.now.lock.0 solution.now site.method.0 site.index }
+{
+    let method = site.method;
+    for number in 0..u32::MAX {
+        let Some(index) = task.successor(site, number) else {
+            return Ok(());
+        };
+        list(task, solution, agenda, Site { method, index })?;
     }
     Ok(())
 }
 
+fn list_handlers(
+    task: &Task,
+    solution: &Solution,
+    agenda: &mut Agenda,
+    site: Site,
+) -> Result<(), AllocError>
+    requires { HasPlace task.now.subject.now task.now.lock.0 solution.now site.method.0 site.index }
+{
+    let method = site.method;
+    for number in 0..u32::MAX {
+        let Some(index) = task.handler(site, number) else {
+            return Ok(());
+        };
+        list(task, solution, agenda, Site { method, index })?;
+    }
+    Ok(())
+}
+
+fn enter_all(
+    task: &Task,
+    solution: &Solution,
+    agenda: &mut Agenda,
+    site: Site,
+) -> Result<bool, AllocError>
+    requires { HasPlace task.now.subject.now task.now.lock.0 solution.now site.method.0 site.index }
+{
+    let mut entered = false;
+    let callees = task.callees(site);
+    for number in 0..callees.len() {
+        let method = callees[number];
+        entered |= list(task, solution, agenda, Site { method, index: 0 })?;
+    }
+    Ok(entered)
+}
+
+// A call comes again behind the callees that it enters anew.
 fn list_callees(
     task: &Task,
     solution: &Solution,
@@ -54,64 +161,87 @@ fn list_callees(
 ) -> Result<(), AllocError>
     requires { HasPlace task.now.subject.now task.now.lock.0 solution.now site.method.0 site.index }
 {
-    let callees = task.callees(site);
-    for number in 0..callees.len() {
-        list(task, solution, agenda, callees[number])?;
+    agenda.looks.push(Look { site, again: true })?;
+    if !enter_all(task, solution, agenda, site)? {
+        agenda.looks.pop();
     }
     Ok(())
 }
 
-fn list_all(
+fn list_led(
     task: &Task,
     solution: &Solution,
     agenda: &mut Agenda,
-    method: MethodNo,
+    site: Site,
 ) -> Result<(), AllocError>
-    requires facts { AreFacts task.now.subject.now task.now.lock.0 solution.now }
-    requires method { method.0 < length task.now.subject.now.app.methods }
+    requires { HasPlace task.now.subject.now task.now.lock.0 solution.now site.method.0 site.index }
 {
-    if !task.subject.reaches(method) {
-        return Ok(());
-    }
-    for index in 0..task.code_len(method) {
-        list_callees(task, solution, agenda, Site { method, index })?;
-    }
-    Ok(())
+    list_successors(task, solution, agenda, site)?;
+    list_handlers(task, solution, agenda, site)?;
+    list_callees(task, solution, agenda, site)
 }
 
-// A method comes again until it gives nothing new, each time after the callees that it enters anew.
-fn look<R: Rows>(
+// The facts that a look leads on: they count as led on from now.
+fn take(task: &Task, solution: &Solution, agenda: &mut Agenda, look: Look) -> u64
+    requires { HasPlace task.now.subject.now task.now.lock.0 solution.now look.site.method.0 look.site.index }
+{
+    let _ = task;
+    let word = solution.at_word(look.site.method, look.site.index);
+    let passed = agenda.passed(look.site);
+    agenda.pass(look.site, word);
+    if look.again { word } else { word & !passed }
+}
+
+fn is_place(task: &Task, site: Site) -> bool
+    requires { task.now.lock.0 < slot_count task.now.subject.now }
+    ensures { result ≡ true → IsPlace task.now.subject.now task.now.lock.0 site.method.0 site.index }
+{
+    if site.method.0 >= task.method_count() {
+        return false;
+    }
+    if !task.subject.reaches(site.method) {
+        return false;
+    }
+    site.index < task.code_len(site.method)
+}
+
+fn look_at<R: Rows>(
     task: &Task,
     rows: &mut R,
     solution: &mut Solution,
     agenda: &mut Agenda,
-    method: MethodNo,
+    look: Look,
 ) -> Result<(), AllocError>
     requires { AreFacts task.now.subject.now task.now.lock.0 solution.old }
     ensures { Keeps (InsideBy task.now.subject.now task.now.lock.0) (R.masks rows.old) (R.masks rows.new) solution.old solution.new }
 {
-    if method.0 >= task.method_count() {
+    if !is_place(task, look.site) {
         return Ok(());
     }
-    if visit_method(task, rows, solution, method) {
-        agenda.methods.push(method)?;
-        list_all(task, solution, agenda, method)?;
+    let part = take(task, solution, agenda, look);
+    if part == 0 {
+        return Ok(());
     }
-    Ok(())
+    visit_part(task, rows, solution, look.site, part);
+    list_led(task, solution, agenda, look.site)
 }
 
 fn list_entered(task: &Task, solution: &Solution, agenda: &mut Agenda) -> Result<(), AllocError>
     requires { AreFacts task.now.subject.now task.now.lock.0 solution.now }
 {
-    for method in 0..task.method_count() {
-        if task.subject.reaches(MethodNo(method)) {
-            list(task, solution, agenda, MethodNo(method))?;
+    for number in 0..task.method_count() {
+        let site = Site {
+            method: MethodNo(number),
+            index: 0,
+        };
+        if is_place(task, site) {
+            list(task, solution, agenda, site)?;
         }
     }
     Ok(())
 }
 
-/// Brings the facts near to the least ones.
+/// Brings the facts near to the least ones. Only a call whose callee is still to return, as in a recursion, is left.
 pub fn approach<R: Rows>(
     alloc: Global,
     task: &Task,
@@ -122,16 +252,16 @@ pub fn approach<R: Rows>(
     ensures { Keeps (InsideBy task.now.subject.now task.now.lock.0) (R.masks rows.old) (R.masks rows.new) solution.old solution.new }
 {
     let mut agenda = Agenda {
-        methods: Vec::new(alloc),
-        seen: vec![in alloc; 0u64; task.method_count() as usize]?,
+        looks: Vec::new(alloc),
+        passed: passed_rows(alloc, task, solution)?,
     };
     list_entered(task, solution, &mut agenda)?;
     // A bounded loop needs no measure.
     for _ in 0..u64::MAX {
-        let Some(method) = agenda.methods.pop() else {
+        let Some(look) = agenda.looks.pop() else {
             return Ok(());
         };
-        look(task, rows, solution, &mut agenda, method)?;
+        look_at(task, rows, solution, &mut agenda, look)?;
     }
     Ok(())
 }

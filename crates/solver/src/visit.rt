@@ -1,7 +1,7 @@
 //! All that follows from the facts of an instruction.
 ghost use Rattle.std.specs.Prelude.{◌≡◌, Some};
 ghost use Rattle.app_model.specs.Words.{successor_at};
-ghost use Rattle.solver.specs.Turns.{Step, Still, HasPlace, Every};
+ghost use Rattle.solver.specs.Turns.{Step, Still, HasPlace, Every, Keeps, InsideBy};
 ghost use Rattle.solver.specs.Visits.{IsHere, SuccessorPassed, Returned, IsDone, IsVisited};
 
 use crate::ask::ask_passes;
@@ -84,4 +84,19 @@ pub fn visit<R: Rows>(task: &Task, rows: &mut R, solution: &mut Solution, site: 
         return false;
     }
     lead_on(task, rows, solution, site, word)
+}
+
+/// Applies the rules from the facts of an instruction that a word has too. It promises nothing.
+pub fn visit_part<R: Rows>(
+    task: &Task,
+    rows: &mut R,
+    solution: &mut Solution,
+    site: Site,
+    part: u64,
+)
+    requires { HasPlace task.now.subject.now task.now.lock.0 solution.old site.method.0 site.index }
+    ensures { Keeps (InsideBy task.now.subject.now task.now.lock.0) (R.masks rows.old) (R.masks rows.new) solution.old solution.new }
+{
+    let word = solution.at_word(site.method, site.index) & part;
+    lead_on(task, rows, solution, site, word);
 }
