@@ -10,18 +10,19 @@ use ns_base::MethodNo;
 use solution::Solution;
 use std::alloc::{AllocError, Global};
 
-/// A place that is worth a look: at what is new there, or again at all, since its callees came first.
+/// How a method ends, to see whether that grew.
 #[derive(Clone, Copy)]
-struct Look {
-    site: Site,
-    again: bool,
+struct Ends {
+    returned: u64,
+    thrown: u64,
 }
 
-/// What is to be looked at, the next one last, and the facts of each place that were led on.
+/// What is to be looked at, the next one last, the facts of each place that were led on, and the calls of each method.
 #[derive(Drop)]
 struct Agenda {
-    looks: Vec<Look>,
+    looks: Vec<Site>,
     passed: Vec<Vec<u64>>,
+    calls: Vec<Vec<Site>>,
 }
 
 impl Agenda {
@@ -43,6 +44,50 @@ impl Agenda {
             *passed = word;
         }
     }
+
+    fn call(&self, callee: MethodNo, number: usize) -> Option<Site> {
+        let row = self.calls.get(callee.0 as usize)?;
+        row.get(number).copied()
+    }
+}
+
+// Notes a call at each of its callees.
+fn note_call(task: &Task, calls: &mut Vec<Vec<Site>>, site: Site) -> Result<(), AllocError>
+    requires { IsPlace task.now.subject.now task.now.lock.0 site.method.0 site.index }
+{
+    let callees = task.callees(site);
+    for number in 0..callees.len() {
+        if let Some(row) = calls.get_mut(callees[number].0 as usize) {
+            row.push(site)?;
+        }
+    }
+    Ok(())
+}
+
+fn note_calls(task: &Task, calls: &mut Vec<Vec<Site>>, method: MethodNo) -> Result<(), AllocError>
+    requires lock { task.now.lock.0 < slot_count task.now.subject.now }
+    requires method { method.0 < length task.now.subject.now.app.methods }
+{
+    for index in 0..task.code_len(method) {
+        let site = Site { method, index };
+        if is_place(task, site) {
+            note_call(task, calls, site)?;
+        }
+    }
+    Ok(())
+}
+
+fn calls_by_callee(alloc: Global, task: &Task) -> Result<Vec<Vec<Site>>, AllocError>
+    requires { task.now.lock.0 < slot_count task.now.subject.now }
+{
+    let mut calls = Vec::new(alloc);
+    for _ in 0..task.method_count() {
+        calls.push(Vec::new(alloc))?;
+    }
+    for method in 0..task.method_count() {
+        note_calls(task, &mut calls, MethodNo(method))?;
+    }
+    Ok(calls)
 }
 
 // What is taken as led on at first, by instruction: all but how the method was entered. Where more callbacks begin than at
@@ -95,7 +140,7 @@ fn list(
     if fresh == 0 {
         return Ok(false);
     }
-    agenda.looks.push(Look { site, again: false })?;
+    agenda.looks.push(site)?;
     Ok(true)
 }
 
@@ -135,24 +180,6 @@ fn list_handlers(
     Ok(())
 }
 
-fn enter_all(
-    task: &Task,
-    solution: &Solution,
-    agenda: &mut Agenda,
-    site: Site,
-) -> Result<bool, AllocError>
-    requires { HasPlace task.now.subject.now task.now.lock.0 solution.now site.method.0 site.index }
-{
-    let mut entered = false;
-    let callees = task.callees(site);
-    for number in 0..callees.len() {
-        let method = callees[number];
-        entered |= list(task, solution, agenda, Site { method, index: 0 })?;
-    }
-    Ok(entered)
-}
-
-// A call comes again behind the callees that it enters anew.
 fn list_callees(
     task: &Task,
     solution: &Solution,
@@ -161,9 +188,10 @@ fn list_callees(
 ) -> Result<(), AllocError>
     requires { HasPlace task.now.subject.now task.now.lock.0 solution.now site.method.0 site.index }
 {
-    agenda.looks.push(Look { site, again: true })?;
-    if !enter_all(task, solution, agenda, site)? {
-        agenda.looks.pop();
+    let callees = task.callees(site);
+    for number in 0..callees.len() {
+        let method = callees[number];
+        list(task, solution, agenda, Site { method, index: 0 })?;
     }
     Ok(())
 }
@@ -181,15 +209,64 @@ fn list_led(
     list_callees(task, solution, agenda, site)
 }
 
-// The facts that a look leads on: they count as led on from now.
-fn take(task: &Task, solution: &Solution, agenda: &mut Agenda, look: Look) -> u64
-    requires { HasPlace task.now.subject.now task.now.lock.0 solution.now look.site.method.0 look.site.index }
+// A call is led on anew. Where something was new there already, it is listed.
+fn list_call(
+    task: &Task,
+    solution: &Solution,
+    agenda: &mut Agenda,
+    site: Site,
+) -> Result<(), AllocError>
+    requires { HasPlace task.now.subject.now task.now.lock.0 solution.now site.method.0 site.index }
 {
     let _ = task;
-    let word = solution.at_word(look.site.method, look.site.index);
-    let passed = agenda.passed(look.site);
-    agenda.pass(look.site, word);
-    if look.again { word } else { word & !passed }
+    let word = solution.at_word(site.method, site.index);
+    let fresh = word & !agenda.passed(site);
+    agenda.pass(site, 0);
+    if fresh == 0 && word != 0 {
+        agenda.looks.push(site)?;
+    }
+    Ok(())
+}
+
+// The calls of a method that are known.
+fn list_calls(
+    task: &Task,
+    solution: &Solution,
+    agenda: &mut Agenda,
+    callee: MethodNo,
+) -> Result<(), AllocError>
+    requires { AreFacts task.now.subject.now task.now.lock.0 solution.now }
+{
+    for number in 0..u64::MAX {
+        let Some(site) = agenda.call(callee, number as usize) else {
+            return Ok(());
+        };
+        if is_place(task, site) {
+            list_call(task, solution, agenda, site)?;
+        }
+    }
+    Ok(())
+}
+
+fn ends_of(task: &Task, solution: &Solution, site: Site) -> Ends
+    requires { HasPlace task.now.subject.now task.now.lock.0 solution.now site.method.0 site.index }
+{
+    let _ = task;
+    Ends {
+        returned: solution.ret_word(site.method),
+        thrown: solution.exc_word(site.method),
+    }
+}
+
+// The facts that a look leads on: they count as led on from now.
+fn take(task: &Task, solution: &Solution, agenda: &mut Agenda, site: Site) -> u64
+    requires { HasPlace task.now.subject.now task.now.lock.0 solution.now site.method.0 site.index }
+{
+    let _ = task;
+    let word = solution.at_word(site.method, site.index);
+    let passed = agenda.passed(site);
+    agenda.pass(site, word);
+    word & !passed
 }
 
 fn is_place(task: &Task, site: Site) -> bool
@@ -210,20 +287,26 @@ fn look_at<R: Rows>(
     rows: &mut R,
     solution: &mut Solution,
     agenda: &mut Agenda,
-    look: Look,
+    site: Site,
 ) -> Result<(), AllocError>
     requires { AreFacts task.now.subject.now task.now.lock.0 solution.old }
     ensures { Keeps (InsideBy task.now.subject.now task.now.lock.0) (R.masks rows.old) (R.masks rows.new) solution.old solution.new }
 {
-    if !is_place(task, look.site) {
+    if !is_place(task, site) {
         return Ok(());
     }
-    let part = take(task, solution, agenda, look);
+    let part = take(task, solution, agenda, site);
     if part == 0 {
         return Ok(());
     }
-    visit_part(task, rows, solution, look.site, part);
-    list_led(task, solution, agenda, look.site)
+    let before = ends_of(task, solution, site);
+    visit_part(task, rows, solution, site, part);
+    list_led(task, solution, agenda, site)?;
+    let after = ends_of(task, solution, site);
+    if after.returned != before.returned || after.thrown != before.thrown {
+        list_calls(task, solution, agenda, site.method)?;
+    }
+    Ok(())
 }
 
 fn list_entered(task: &Task, solution: &Solution, agenda: &mut Agenda) -> Result<(), AllocError>
@@ -241,7 +324,7 @@ fn list_entered(task: &Task, solution: &Solution, agenda: &mut Agenda) -> Result
     Ok(())
 }
 
-/// Brings the facts near to the least ones. Only a call whose callee is still to return, as in a recursion, is left.
+/// Brings the facts near to the least ones. Where one callee's ends grow, its calls come again.
 pub fn approach<R: Rows>(
     alloc: Global,
     task: &Task,
@@ -254,14 +337,15 @@ pub fn approach<R: Rows>(
     let mut agenda = Agenda {
         looks: Vec::new(alloc),
         passed: passed_rows(alloc, task, solution)?,
+        calls: calls_by_callee(alloc, task)?,
     };
     list_entered(task, solution, &mut agenda)?;
     // A bounded loop needs no measure.
     for _ in 0..u64::MAX {
-        let Some(look) = agenda.looks.pop() else {
+        let Some(site) = agenda.looks.pop() else {
             return Ok(());
         };
-        look_at(task, rows, solution, &mut agenda, look)?;
+        look_at(task, rows, solution, &mut agenda, site)?;
     }
     Ok(())
 }
