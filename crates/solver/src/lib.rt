@@ -2,7 +2,7 @@
 //!
 //! - `task` has the subject and the lock, and places in its code.
 //! - `ask` asks the masks of an instruction; `throws`, `calls` and `visit` apply the rules from it.
-//! - `sweep` visits all instructions until nothing changes; `approach` first takes methods in a good order.
+//! - `sweep` visits all instructions until nothing changes; `approach` first leads on what is new, from a worklist of places.
 #![tactic(auto)]
 
 mod approach;
