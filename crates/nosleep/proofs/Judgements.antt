@@ -49,6 +49,7 @@ use Rattle.tag_flow.specs.declared.fault.TagFault.TheVariants as tag
 use Rattle.view_solver.specs.Reported.{HasLeast}
 use Rattle.view_solver.proofs.Closed.{least_closed}
 use Rattle.view_solver.proofs.Judged.{derived_violation}
+use Rattle.one_scope.specs.Alike.{AreAlike}
 use Rattle.one_scope.proofs.Graphs.{same_cells, same_targets}
 use Rattle.one_scope.proofs.Breaks.{same_breaks}
 use Rattle.nosleep.specs.declared.refusing.Answer.{Answer}
@@ -77,10 +78,15 @@ told_by x violations text exits.Memory are safe t = t
 told_by x violations text exits.Broken are safe t = t
 told_by x violations text exits.Partly are safe t = t
 
-pub told_answer : {E : Type 0} (x : SubjectParts) (violations : List Violation) (r : Result Answer E) → AreViolations x violations → (violations ≡ [] → IsSafe x) → IfOk r (λ a. IsTold x.app x.list violations a.text.items a.exit)
-    → IfOk r (λ a. IsJudgement x a.text.items a.exit)
-told_answer x violations (Ok a) are safe t = told_by x violations a.text.items a.exit are safe t
-told_answer x violations (Err e) are safe t = tt
+told_of : (x y : SubjectParts) (violations : List Violation) (text : List ℕ) (exit : Exit) → AreAlike x y → IsTold x.app x.list violations text exit → IsTold y.app y.list violations text exit
+told_of x y violations text exit alike t =
+    subst (λ (app : AppParts). IsTold app y.list violations text exit) alike.app (subst (λ (list : List ComponentParts). IsTold x.app list violations text exit) alike.list t)
+
+-- so of each subject that is alike
+pub told_answer : {E : Type 0} (x : SubjectParts) (violations : List Violation) (r : Result Answer E) → ((y : SubjectParts) → AreAlike x y → AreViolations y violations × (violations ≡ [] → IsSafe y))
+    → IfOk r (λ a. IsTold x.app x.list violations a.text.items a.exit) → IfOk r (λ a. IsOutcome (Ok x) a.text.items a.exit)
+told_answer x violations (Ok a) each t = λ y alike. told_by y violations a.text.items a.exit (each y alike).0 (each y alike).1 (told_of x y violations a.text.items a.exit alike t)
+told_answer x violations (Err e) each t = tt
 
 -- no derived violation: the least solution of each lock field meets the policy, so that every run is safe
 pub all_safe : (x : SubjectParts) (violations : List Violation) → AreViolations x violations → ((l : ℕ) → l < slot_count x → HasLeast x l)
@@ -134,7 +140,7 @@ module _ {E : Type 0} (files : List (List ℕ)) (rows : List ListedParts) (app :
     pub scope_answer : (fault : ScopeFault) (r : Result Answer E) → IsTagTableOf app graph list table → IsCause (candidate_by app graph list table) fault → IfOk r (λ a. IsRefused (OutOfScope fault) a.text.items a.exit) → IfOk r (λ a. HasOutcome (Ok rows) files a.text.items a.exit)
     scope_answer fault r is_table cause told = has_outcome (Ok rows) files (Err (OutOfScope fault)) r (out_of_scope rows (candidate_by app graph list table) fault refl is bound within is_table cause) told
 
-    pub judged_answer : (x : SubjectParts) (r : Result Answer E) → candidate_of x ≡ candidate_by app graph list table → IsInScope x → IfOk r (λ a. IsJudgement x a.text.items a.exit) → IfOk r (λ a. HasOutcome (Ok rows) files a.text.items a.exit)
+    pub judged_answer : (x : SubjectParts) (r : Result Answer E) → candidate_of x ≡ candidate_by app graph list table → IsInScope x → IfOk r (λ a. IsOutcome (Ok x) a.text.items a.exit) → IfOk r (λ a. HasOutcome (Ok rows) files a.text.items a.exit)
     judged_answer x r same scope told =
         has_outcome (Ok rows) files (Ok x) r
         (judged rows x refl (subst (λ (c : Candidate). IsApplication files c.app) (sym same) is) (subst (λ (c : Candidate). bound_of c.app rows ≡ Ok c.list) (sym same) bound)
@@ -168,18 +174,13 @@ not_memory (inl e) = cc
 not_memory (inr (inl e)) = cc
 not_memory (inr (inr e)) = cc
 
-pub outcome_told : (r : Result SubjectParts Refusal) (text : List ℕ) (exit : Exit) → IsOutcome r text exit → exit ≡ exits.Memory → ⊥
-outcome_told (Ok x) text exit is e = subst (λ (k : Exit). IsJudgement x text k) e is
-outcome_told (Err refusal) text exit is e = not_memory (subst AsRefused e (refused_exit refusal text exit is))
-
--- ---- an accepted subject is safe
-pub accepted_safe : (r : Result SubjectParts Refusal) (text : List ℕ) → IsOutcome r text exits.Accept → (x : SubjectParts) × (r ≡ Ok x) × IsSafe x
-accepted_safe (Ok x) text is = (x, refl, is.1.1)
-accepted_safe (Err refusal) text is = absurd (not_accepted (refused_exit refusal text exits.Accept is))
-
--- ---- files that can be judged are
+-- ---- files that can be judged are, as each subject that they come to
 abbrev pub AsJudged : Exit → Type 0
 AsJudged exit = (exit ≡ exits.Accept) ⊎ (exit ≡ exits.Reports)
+
+pub unjudged : {exit : Exit} → (exit ≡ exits.Accept → ⊥) → (exit ≡ exits.Reports → ⊥) → AsJudged exit → ⊥
+unjudged no_accept no_report (inl e) = no_accept e
+unjudged no_accept no_report (inr e) = no_report e
 
 judgement_exit : (x : SubjectParts) (text : List ℕ) (exit : Exit) → IsJudgement x text exit → AsJudged exit
 judgement_exit x text exits.Accept is = inl refl
@@ -258,7 +259,7 @@ module _ (listed : Result (List ListedParts) ListFault) (files : List (List ℕ)
       scope.unbroken rule method.0 pc
       (same_breaks x.app x.list found.graph x.graph found.tags x.tags graph_here scope.graph table_here scope.tags (subst (λ (c : Candidate). Breaks c rule method.0 pc) same broken))
 
-  judged_outcome : (r : Result SubjectParts Refusal) (text : List ℕ) (exit : Exit) → ComesTo listed files r → IsOutcome r text exit → AsJudged exit
+  judged_outcome : (r : Result SubjectParts Refusal) (text : List ℕ) (exit : Exit) → ComesTo listed files r → IsOutcome r text exit → IsJudgement x text exit
   judged_outcome _ text exit (bad_list fault e) o = absurd (not_both rows fault listed l e)
   judged_outcome _ text exit (bad_file others i fault e fails) o =
       let c = has_content files is.contents i fails.bytes is.read fails.there in
@@ -272,10 +273,11 @@ module _ (listed : Result (List ListedParts) ListFault) (files : List (List ℕ)
       let here = list_here others other list e at b in absurd (few_cells other graph list n here.0 here.1 is_graph cells many)
   judged_outcome _ text exit (out_of_scope others found fault e at b fits table cause) o =
       let here = list_here others found.app found.list e at b in absurd (no_break found fault text exit here.0 here.1 fits table cause o)
-  judged_outcome _ text exit (judged others other e at b fits in_scope) o = judgement_exit other text exit o
+  judged_outcome _ text exit (judged others other e at b fits in_scope) o =
+      let here = list_here others other.app other.list e at b in o x (record { app = here.0; list = here.1; first = in_scope; second = scope })
 
 module _ (listed : Result (List ListedParts) ListFault) (files : List (List ℕ)) where
-  outcome_of_judged : (s r : Result SubjectParts Refusal) (x : SubjectParts) (text : List ℕ) (exit : Exit) → s ≡ Ok x → ComesTo listed files s → ComesTo listed files r → IsOutcome r text exit → AsJudged exit
+  outcome_of_judged : (s r : Result SubjectParts Refusal) (x : SubjectParts) (text : List ℕ) (exit : Exit) → s ≡ Ok x → ComesTo listed files s → ComesTo listed files r → IsOutcome r text exit → IsJudgement x text exit
   outcome_of_judged _ r x text exit same (judged rows y l is b within scope) c o = judged_outcome listed files rows y l is b within scope r text exit c o
   outcome_of_judged _ r x text exit same (bad_list fault e) c o = absurd (not_both x _ _ same refl)
   outcome_of_judged _ r x text exit same (bad_file rows i fault e fails) c o = absurd (not_both x _ _ same refl)
@@ -285,10 +287,20 @@ module _ (listed : Result (List ListedParts) ListFault) (files : List (List ℕ)
   outcome_of_judged _ r x text exit same (many_cells rows app graph list n e at b few is_graph cells many) c o = absurd (not_both x _ _ same refl)
   outcome_of_judged _ r x text exit same (out_of_scope rows other fault e at b fits table cause) c o = absurd (not_both x _ _ same refl)
 
-form_outcome : (form : Form) (all : List (List ℕ)) (r : Result SubjectParts Refusal) (x : SubjectParts) (text : List ℕ) (exit : Exit) → BytesComeTo form all (Ok x) → BytesComeTo form all r → IsOutcome r text exit → AsJudged exit
+form_outcome : (form : Form) (all : List (List ℕ)) (r : Result SubjectParts Refusal) (x : SubjectParts) (text : List ℕ) (exit : Exit) → BytesComeTo form all (Ok x) → BytesComeTo form all r → IsOutcome r text exit → IsJudgement x text exit
 form_outcome (Receiver dex class) files r x text exit p c o = outcome_of_judged _ files (Ok x) r x text exit refl p c o
 form_outcome (Verify list dex) [] r x text exit p c o = absurd p
 form_outcome (Verify list dex) (bytes ∷ files) r x text exit p c o = outcome_of_judged _ files (Ok x) r x text exit refl p c o
+
+-- an accepted subject is safe
+accepted_safe : (form : Form) (all : List (List ℕ)) (r : Result SubjectParts Refusal) (text : List ℕ) → BytesComeTo form all r → IsOutcome r text exits.Accept → (x : SubjectParts) × (r ≡ Ok x) × IsSafe x
+accepted_safe form all (Ok x) text comes is = (x, refl, (form_outcome form all (Ok x) x text exits.Accept comes comes is).1.1)
+accepted_safe form all (Err refusal) text comes is = absurd (not_accepted (refused_exit refusal text exits.Accept is))
+
+-- no outcome is want of memory
+pub outcome_told : (form : Form) (all : List (List ℕ)) (r : Result SubjectParts Refusal) (text : List ℕ) (exit : Exit) → BytesComeTo form all r → IsOutcome r text exit → exit ≡ exits.Memory → ⊥
+outcome_told form all (Ok x) text exit comes is e = subst (λ (k : Exit). IsJudgement x text k) e (form_outcome form all (Ok x) x text exit comes comes is)
+outcome_told form all (Err refusal) text exit comes is e = not_memory (subst AsRefused e (refused_exit refusal text exit is))
 
 -- ---- from the answer to words and files to why it comes
 abbrev pub AreTakenOf : (List ℕ → Option (List ℕ)) → Form → List (List ℕ) → Type 0
@@ -316,7 +328,7 @@ module _ (words : List (List ℕ)) (content : List ℕ → Option (List ℕ)) (b
   accepted _ _ same (unread other i file bytes e few there taken rose) = absurd (let no : ⊥ = cc in no)
   accepted _ _ same (too_long other i file bytes e few there taken long) = absurd (let no : ⊥ = cc in no)
   accepted _ _ same (read other bytes r text exit e few taken c o) =
-      let safe = accepted_safe r text (subst (λ (k : Exit). IsOutcome r text k) same o) in
+      let safe = accepted_safe other bytes r text c (subst (λ (k : Exit). IsOutcome r text k) same o) in
       (safe.0, answered_bytes other bytes (Ok safe.0) (same_form other e) taken (subst (λ (s : Result SubjectParts Refusal). BytesComeTo other bytes s) safe.1 c), safe.2)
   accepted _ _ same starved = absurd (let no : ⊥ = cc in no)
 
@@ -330,6 +342,19 @@ module _ (words : List (List ℕ)) (content : List ℕ → Option (List ℕ)) (b
       let less = tells.1 in
       omega (arith, more, less)
 
+  module _ (x : SubjectParts) (judges : AreJudged form all x) where
+    -- the answer is the judgement of each subject that they come to
+    judged_so : (other : Form) (bytes : List (List ℕ)) (r : Result SubjectParts Refusal) (text : List ℕ) (exit : Exit) → form_of words ≡ Some other → AreTakenOf content other bytes → BytesComeTo other bytes r → IsOutcome r text exit → IsJudgement x text exit
+    judged_so other bytes r text exit e taken c o = form_outcome form all r x text exit judges (answered_bytes other bytes r (same_form other e) taken c) o
+
+    pub exact_of : (text : List ℕ) (exit : Exit) → IsAnswer words content before now text exit → AsJudged exit → IsJudgement x text exit
+    exact_of _ _ (usage none) j = absurd (unjudged (λ e. cc) (λ e. cc) j)
+    exact_of _ _ (many_files other e many) j = absurd (unjudged (λ e. cc) (λ e. cc) j)
+    exact_of _ _ (unread other i file bytes e few there taken rose) j = absurd (unjudged (λ e. cc) (λ e. cc) j)
+    exact_of _ _ (too_long other i file bytes e few there taken long) j = absurd (unjudged (λ e. cc) (λ e. cc) j)
+    exact_of _ _ (read other bytes r text exit e few taken c o) j = judged_so other bytes r text exit e taken c o
+    exact_of _ _ starved j = absurd (unjudged (λ e. cc) (λ e. cc) j)
+
   module _ (x : SubjectParts) (judges : AreJudged form all x) (quiet : ¬ Rose before now) where
     pub judged_exit : (text : List ℕ) (exit : Exit) → IsAnswer words content before now text exit → (exit ≡ exits.Accept) ⊎ ((exit ≡ exits.Reports) ⊎ (exit ≡ exits.Memory))
     judged_exit _ _ (usage none) = absurd (let no : ⊥ = cc in no)
@@ -338,5 +363,5 @@ module _ (words : List (List ℕ)) (content : List ℕ → Option (List ℕ)) (b
     judged_exit _ _ (too_long other i file bytes e few there taken long) =
         let at = subst (λ (f : Form). slice_get (files_of f) i ≡ Some file) (same_form other e) there in
         absurd (no_long i file at long)
-    judged_exit _ _ (read other bytes r text exit e few taken c o) = widened exit (form_outcome form all r x text exit judges (answered_bytes other bytes r (same_form other e) taken c) o)
+    judged_exit _ _ (read other bytes r text exit e few taken c o) = widened exit (judgement_exit x text exit (judged_so x judges other bytes r text exit e taken c o))
     judged_exit _ _ starved = inr (inr refl)

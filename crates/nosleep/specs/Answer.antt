@@ -9,6 +9,7 @@ use Rattle.app_model.specs.Subject.{SubjectParts}
 use Rattle.app_model.specs.declared.component.Kind.TheVariants as kinds
 use Rattle.component_list.specs.Listed.{ListedParts}
 use Rattle.component_list.specs.Reading.{listed_of}
+use Rattle.one_scope.specs.Alike.{AreAlike}
 use Rattle.report_text.specs.Limits.{over_limit_text}
 use Rattle.report_text.specs.Texts.{usage_text, cannot_read_text}
 use Rattle.nosleep.specs.Files.{ComesTo}
@@ -40,9 +41,9 @@ BytesComeTo (Receiver dex class) files result = ComesTo (Ok (one_receiver class)
 BytesComeTo (Verify list dex) [] result = ⊥
 BytesComeTo (Verify list dex) (bytes ∷ files) result = ComesTo (listed_of bytes) files result
 
--- the exit and text of that
+-- the exit and text of that: of a subject, the judgement of each that is in scope of its application and list
 abbrev pub IsOutcome : Result SubjectParts Refusal → List ℕ → Exit → Type 0
-IsOutcome (Ok x) text exit = IsJudgement x text exit
+IsOutcome (Ok x) text exit = (y : SubjectParts) → AreAlike x y → IsJudgement y text exit
 IsOutcome (Err refusal) text exit = IsRefused refusal text exit
 
 -- ---- words and files
@@ -82,3 +83,7 @@ pub record AreTold (content : List ℕ → Option (List ℕ)) (form : Form) (all
 -- they are an application that is judged, as this subject
 abbrev pub AreJudged : Form → List (List ℕ) → SubjectParts → Type 0
 AreJudged form all x = BytesComeTo form all (Ok x)
+
+-- an acceptance, and a report, is the judgement of the subject, and its text is written
+abbrev pub IsExact : SubjectParts → Exit → Option (List ℕ) → Option (List ℕ) → Type 0
+IsExact x exit before now = (exit ≡ exits.Accept) ⊎ (exit ≡ exits.Reports) → (text : List ℕ) × IsJudgement x text exit × WroteAll before now text

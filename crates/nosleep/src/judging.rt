@@ -13,7 +13,7 @@ ghost use Rattle.component_list.specs.Binding.{bound_of};
 ghost use Rattle.component_list.specs.Listed.{IsReadList, ListedParts};
 ghost use Rattle.component_list.specs.Reading.{listed_of};
 ghost use Rattle.nosleep.specs.Files.{AreContents, AreSmall, IsApplication, IsWithinLimits};
-ghost use Rattle.nosleep.specs.Judged.{IsJudgement};
+ghost use Rattle.nosleep.specs.Answer.{IsOutcome};
 ghost use Rattle.nosleep.specs.Outcome.{HasOutcome, IsTold};
 
 use crate::contents::{Contents, read_contents};
@@ -29,7 +29,7 @@ use dex_file::DexParts;
 use flow_model::Violation;
 use ns_base::{Exit, OutOfMemory};
 use report_text::{accept, heads_text};
-use run_model::soundness;
+use run_model::tagged_soundness;
 use scope_check::scope;
 use std::alloc::{AllocError, Global};
 use tag_flow::tags;
@@ -166,10 +166,10 @@ fn answer_tagged(
 // The answer to a subject in scope.
 fn judge(alloc: Global, subject: &Subject) -> Result<Answer, AllocError>
     requires { IsInScope subject.now }
-    ensures { IfOk result (λ a. IsJudgement subject.now a.text.items a.exit) }
+    ensures { IfOk result (λ a. IsOutcome (Ok subject.now) a.text.items a.exit) }
 {
     subject.told();
-    soundness();
+    tagged_soundness();
     match all_violations(alloc, subject) {
         Ok(found) => tell(alloc, subject, &found),
         Err(OutOfMemory) => Err(AllocError),

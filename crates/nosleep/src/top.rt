@@ -2,7 +2,7 @@
 ghost use Rattle.std.specs.Prelude.{◌≡◌, ◌≢◌, ◌⊎◌, ℕ, List, Some, map, string_bytes};
 ghost use Rattle.ns_base.specs.Outside.{Rose};
 ghost use Rattle.nosleep.specs.Words.{Form, form_of};
-ghost use Rattle.nosleep.specs.Answer.{AreJudged, AreTold, IsAnswer, IsEnd};
+ghost use Rattle.nosleep.specs.Answer.{AreJudged, AreTold, IsAnswer, IsEnd, IsExact};
 ghost use Rattle.nosleep.specs.Reading.{KeepsShelf};
 ghost use Rattle.app_model.specs.Subject.{SubjectParts};
 ghost use Rattle.nosleep.specs.Judged.{IsSafe};
@@ -36,6 +36,11 @@ pub fn nosleep<F: Shelf, K: Sink>(
     // After accepted files no run of the machine leaves a lock held.
     ensures sound { result ≡ Exit.Accept → (form : Form) (all : List (List ℕ)) → form_of (map string_bytes words.now) ≡ Some form
         → AreTold (F.content shelf.old) form all → (x : SubjectParts) × AreJudged form all x × IsSafe x }
+
+    // Told files are accepted only where the rules derive no violation, and reported only with the violations that they
+    // derive: for each subject that the files come to.
+    ensures exact { (form : Form) (all : List (List ℕ)) (x : SubjectParts) → form_of (map string_bytes words.now) ≡ Some form
+        → AreTold (F.content shelf.old) form all → AreJudged form all x → IsExact x result (K.taken out.old) (K.taken out.new) }
 
     // Told files that can be judged are accepted or reported, unless the outside failed or memory ran out.
     ensures complete { (form : Form) (all : List (List ℕ)) (x : SubjectParts) → form_of (map string_bytes words.now) ≡ Some form

@@ -32,10 +32,10 @@ module _ (app : AppParts) (list : List ComponentParts) (one other : GraphParts) 
   left_out_over : (m : ℕ) → ¬ IsEntered left m → ¬ IsEntered right m
   left_out_over m out entered = out (reached_over other one (turned one other same) _ m entered)
 
-  below_over : (m n : ℕ) → IsBelow left m n → IsBelow right m n
+  pub below_over : (m n : ℕ) → IsBelow left m n → IsBelow right m n
   below_over m n below = reached_over one other same _ n below
 
-  access_over : {m i l : ℕ} {field : FieldRow} → IsAccess left m i l field → IsAccess right m i l field
+  pub access_over : {m i l : ℕ} {field : FieldRow} → IsAccess left m i l field → IsAccess right m i l field
   access_over {m = m} access = record { reached = entered_over m access.reached; slot = access.slot; is = access.is }
 
   made_over : (field : FieldRow) → IsMade left field → IsMade right field
@@ -48,7 +48,7 @@ module _ (app : AppParts) (list : List ComponentParts) (one other : GraphParts) 
     below = made.below;
   }
 
-  test_over : (m i : ℕ) (test : Option Act → List Tag → Bool) → test (act_at app m i) (row_at low m i) ≡ true → test (act_at app m i) (row_at high m i) ≡ true
+  pub test_over : (m i : ℕ) (test : Option Act → List Tag → Bool) → test (act_at app m i) (row_at low m i) ≡ true → test (act_at app m i) (row_at high m i) ≡ true
   test_over m i test is = ap (test (act_at app m i)) (sym (rows m i)) ∙ is
 
   store_over : {l m i : ℕ} → StoresNew left l m i → StoresNew right l m i

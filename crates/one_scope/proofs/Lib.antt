@@ -1,3 +1,5 @@
 pub mod Graphs
 pub mod Tables
 pub mod Breaks
+pub mod Owners
+pub mod Rules
