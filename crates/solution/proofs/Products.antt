@@ -1,13 +1,14 @@
 -- A row of a word in each row of another that has its status: a product, whose bytes do not meet.
 use Rattle.std.proofs.Common.{◌≡◌, ◌≢◌, ℕ, zero, suc, ◌+◌, ◌*◌, ◌-◌, ◌/◌, ◌%◌, ◌^◌, ◌<◌, ◌≤◌, Bool, true, false, refl, sym, ap, ◌∙◌, subst, ⊎_elim, arith, w64}
-use Rattle.std.specs.Prelude.{◌&&◌, bit_or, bit_and, not}
+use Rattle.std.specs.Prelude.{◌&&◌, bit_or, bit_and, min, not}
 use Rattle.std.specs.Int.{bit_at, bit_not}
 use Rattle.std.proofs.lemmas.Bool.{and_parts, and_from, cases_eq, cases_lt}
 use Rattle.std.proofs.lemmas.Nat.{shr-shr, mul-add-lt, pow-add, and_le_r}
-use Rattle.std.proofs.Math.Nat.{add-mul, mul_right_comm, mod-eq_of_lt}
-use Rattle.std.proofs.lemmas.Nat.Bits.{bit_at_and, bit_at-lt, bit_at-zero, bit_at_lowest, bit_at_above, bit_at_cat_low, bit_at_cat_high, bit_at_not, same_from_bits_below}
+use Rattle.std.proofs.Math.Pow.{pow-lt}
+use Rattle.std.proofs.Math.Nat.{add-mul, mul_comm, mul_right_comm, mod-eq_of_lt}
+use Rattle.std.proofs.lemmas.Nat.Bits.{bit_at_and, bit_at-lt, bit_at-zero, bit_at_lowest, bit_at_above, bit_at_cat_low, bit_at_cat_high, bit_at_not, bit_at-pow_same, bit_at-pow_other, same_from_bits_below}
 use Rattle.app_model.specs.Masks.{in_mask}
-use Rattle.solution.specs.Words.{has, AreRows, Joined, JoinedBy, JoinedBelow}
+use Rattle.solution.specs.Words.{has, AreRows, Joined, JoinedBy, JoinedBelow, Itself}
 use Rattle.solution.proofs.Bits.{has_true, has_from, none_has, mask_true, mask_from, same_test}
 use Rattle.solution.proofs.Ors.{or_bit, or_left, or_right}
 
@@ -102,6 +103,29 @@ module _ (a s : ℕ) (s8 : s < 8) where
           (cases_eq (column a s e) 0));
     }
 
+-- ---- a mask in each row, and of each row its own status
+module _ (mask : ℕ) (fits : mask < 2 ^ 8) where
+  own_bit : (e t : ℕ) → e < 8 → t < 8 → bit_at (bit_and (mask * 0x0101010101010101) 0x8040201008040201) (8 * e + t) ≡ min (bit_at mask t) (bit_at (2 ^ e) t)
+  own_bit e t e8 t8 =
+      let both = bit_at_and (mask * 0x0101010101010101) 0x8040201008040201 (8 * e + t) in
+      let one : 1 * mask ≡ mask = omega arith in
+      let product : mask * 0x0101010101010101 ≡ bytes (λ k. 1 * mask) 8 = mul_comm mask 0x0101010101010101 ∙ bytes_times 8 (λ k. 1) mask in
+      let row : bit_at (mask * 0x0101010101010101) (8 * e + t) ≡ bit_at mask t = ap (λ x. bit_at x (8 * e + t)) product ∙ bytes_bit 8 (λ k. 1 * mask) e t (λ k. omega arith) e8 t8 ∙ ap (λ x. bit_at x t) one in
+      let high : 2 ^ e < 2 ^ 8 = pow-lt e8 in
+      let own : bit_at 0x8040201008040201 (8 * e + t) ≡ bit_at (2 ^ e) t = bytes_bit 8 (λ k. 2 ^ k % 256) e t (λ k. omega arith) e8 t8 ∙ ap (λ x. bit_at x t) (mod-eq_of_lt high) in
+      omega arith
+
+  pub itself_is : AreRows (Itself mask) 8 (bit_and (mask * 0x0101010101010101) 0x8040201008040201)
+  itself_is = record {
+    there = λ e t e8 h. (let p = mask_true mask e h.1 in let is = own_bit e e p.0 p.0 in let own = bit_at-pow_same e in
+      rw h.0 (has_from _ e e p.0 p.0 (omega arith)));
+    only = λ e t h. (let p = has_true _ e t h in let is = own_bit e t p.0 p.1 in let low = bit_at-lt mask t in let high = bit_at-lt (2 ^ e) t in
+      ⊎_elim
+      (λ (same : t ≡ e). (same, rw same at (mask_from mask t p.1 (omega arith))))
+      (λ ne. absurd (let none = bit_at-pow_other e t ne in omega arith))
+      (cases_eq t e));
+  }
+
 -- ---- joined, one status after the other
 pub joined_none : (a b : ℕ) → AreRows (JoinedBelow a b 0) 8 0
 joined_none a b = record { there = λ e t lt z. absurd (let l = z.1 in omega arith); only = λ e t h. absurd (none_has e t h) }
@@ -147,3 +171,6 @@ without_is w v e s fits =
     let off = bit_at_not w64 v k fits (omega (arith, q.0, q.1)) in
     let b = bit_at-lt v k in
     has_from _ e s q.0 q.1 (⊎_elim (λ yes. absurd (not_both _ (has_from v e s q.0 q.1 yes) p.1)) (λ ne. omega arith) (cases_eq (bit_at v k) 1))))
+
+pub and_not : (p q : Bool) → p ≡ true → q ≡ false → (p && not q) ≡ true
+and_not p q yea off = rw (yea, off) refl

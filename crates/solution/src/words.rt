@@ -7,6 +7,9 @@ ghost use Rattle.solution.specs.Words.{has, IsMask, AreRows, IsShifted, Leads, J
 // Status 0 in each row.
 const COLUMN: u64 = 0x0101_0101_0101_0101;
 
+// Each status in its own row.
+const DIAGONAL: u64 = 0x8040_2010_0804_0201;
+
 /// Whether the mask has the status.
 fn has_status(mask: u8, status: u8) -> bool
     requires { status < 8 }
@@ -108,24 +111,9 @@ pub fn all_of(word: u64) -> u8
     out
 }
 
-fn itself_row(mask: u8, status: u8) -> u8
-    requires { status < 8 }
-    ensures { IsMask (Itself mask status) result }
-{
-    if has_status(mask, status) {
-        single(status)
-    } else {
-        0
-    }
-}
-
 /// Each status of a mask in its own row.
 pub fn itself(mask: u8) -> u64
     ensures { AreRows (Itself mask) 8 result }
 {
-    let mut word = 0;
-    for status in 0..8u8 {
-        word |= shifted(itself_row(mask, status), status);
-    }
-    word
+    (mask as u64 * COLUMN) & DIAGONAL
 }

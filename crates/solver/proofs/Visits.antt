@@ -13,6 +13,7 @@ use Rattle.flow_model.specs.Subject.{own_operation, returns_at}
 use Rattle.solution.specs.Facts.{Facts, holds, Joins, HasPlaces}
 use Rattle.solution.specs.Words.{has, IsMask, AreRows, Joined, Itself}
 use Rattle.solution.proofs.Bits.{has_true, none_has}
+use Rattle.solution.proofs.Products.{and_not}
 use Rattle.solver.specs.Turns.{AllMasks, InsideBy, Turn, Sure, Keeps, Every, Follows, AreFacts, IsPlace, HasPlace, Grown, Nothing}
 use Rattle.solver.specs.Visits.{Asked, Opens, IsHere, IsOpenAt, AreThrown, SuccessorPassed, ThrownTo, ThrownOut, Thrown, OwnThrown, Entered, CameBack, ThrewBack, IsCalled, CalleeDone, EachCalled, CallsDone, Returned, IsLed, LedOn, AreLed, Nears, IsDone, IsVisited}
 use Rattle.solver.proofs.Turns.{has_all_kept, place_kept, places_kept, turn_none, turn_joins, turn_next, turn_as, turn_sure, sure_none, sure_joins, sure_next, sure_as, keeps_none, keeps_turn, keeps_more}
@@ -196,12 +197,9 @@ module _ (x : SubjectParts) (l : ℕ) where
     turn = t.turn;
     done = λ f more e s h. ⊎_elim
         (λ yes. led_kept k a f m e i s (λ g y. more g (t.turn.kept g y)) (are.done m e i s (sym (is e s) ∙ yes)))
-        (λ off. t.done f more e s (without e s ∙ rest_of _ _ h off))
+        (λ off. t.done f more e s (without e s ∙ and_not _ _ h off))
         (cases_Bool (has v e s));
   }
-    where
-      rest_of : (p q : Bool) → p ≡ true → q ≡ false → (p && not q) ≡ true
-      rest_of p q yea off = rw (yea, off) refl
 
   pub rest_none : (k : AllMasks) (m i w v rest : ℕ) (led a : Facts) → AreLed x l k led a → ((e s : ℕ) → has v e s ≡ holds led (At m e i s)) → ((e s : ℕ) → has rest e s ≡ (has w e s && not (has v e s))) → rest ≡ 0
       → Sure (InsideBy x l) (LedOn x l m i w) k k a a false
