@@ -9,7 +9,7 @@ use Rattle.solution.proofs.Ors.{or_bit, or_left, or_right}
 use Rattle.std.proofs.Math.Pow.{pow_mono}
 use Rattle.std.proofs.Math.Nat.{mul-le-mul_left, mod-eq_of_lt}
 use Rattle.app_model.specs.Masks.{in_mask}
-use Rattle.solution.specs.Words.{has, IsMask, AreRows, IsShifted, Below, Leads, Joined, IsOne}
+use Rattle.solution.specs.Words.{has, IsMask, AreRows, IsShifted, Below, IsOne}
 
 pub mask_true : (w s : ℕ) → in_mask w s ≡ true → (s < 8) × (bit_at w s ≡ 1)
 mask_true w s h = let a = and_parts _ _ h in (ltb-true s 8 a.0, eqb-true (bit_at w s) 1 a.1)
@@ -45,7 +45,7 @@ row_bit w e t t8 =
     let is : bit_at (w / 2 ^ (8 * e)) t ≡ bit_at w (8 * e + t) = ap (λ n. n % 2) (shr-shr w (8 * e) t) in
     omega arith
 
-same_test : (x y : Bool) → (x ≡ true → y ≡ true) → (y ≡ true → x ≡ true) → x ≡ y
+pub same_test : (x y : Bool) → (x ≡ true → y ≡ true) → (y ≡ true → x ≡ true) → x ≡ y
 same_test true y f g = sym (f refl)
 same_test false true f g = g refl
 same_test false false f g = refl
@@ -140,16 +140,6 @@ rows_end part n a le x = record { there = λ k t lt p. x.there k t (omega arith)
 -- a row that was read
 pub mask_row : (w e r : ℕ) → ((t : ℕ) → in_mask r t ≡ has w e t) → IsMask (λ t. has w e t ≡ true) r
 mask_row w e r is = record { there = λ t h. is t ∙ h; only = λ t h. sym (is t) ∙ h }
-
-pub joined_row : (a b e r out : ℕ) → ((t : ℕ) → in_mask r t ≡ has a e t) → IsMask (λ t. (s : ℕ) × Leads r b s t) out → IsMask (Joined a b e) out
-joined_row a b e r out is x = record {
-  there = λ t z. x.there t (z.0, (is z.0 ∙ z.1, z.2));
-  only = λ t h. (let o = x.only t h in (o.0, sym (is o.0) ∙ o.1.0, o.1.1));
-}
-
--- an empty row leads nowhere
-pub joined_none : (a b e r : ℕ) → ((t : ℕ) → in_mask r t ≡ has a e t) → r ≡ 0 → IsMask (Joined a b e) 0
-joined_none a b e r is none = mask_empty (Joined a b e) (λ t z. none_in z.0 (rw none at (is z.0 ∙ z.1)))
 
 -- one status in one row
 pub one_is : (e s mask word : ℕ) → e < 8 → IsMask (λ t. t ≡ s) mask → IsShifted mask e word → AreRows (IsOne e s) 8 word

@@ -30,7 +30,13 @@ Below part n t = (k : ℕ) × (k < n) × part k t
 abbrev pub Leads : ℕ → ℕ → ℕ → ℕ → Type 0
 Leads mask word s t = (in_mask mask s ≡ true) × (has word s t ≡ true)
 
--- row e of the first word leads to t by the rows of the second
+-- row e of the first word leads to t by row s of the second, by its rows below n, by its rows
+abbrev pub JoinedBy : (a b s : ℕ) → ℕ → ℕ → Type 0
+JoinedBy a b s e t = (has a e s ≡ true) × (has b s t ≡ true)
+
+abbrev pub JoinedBelow : (a b n : ℕ) → ℕ → ℕ → Type 0
+JoinedBelow a b n e t = (s : ℕ) × (s < n) × (has a e s ≡ true) × (has b s t ≡ true)
+
 abbrev pub Joined : ℕ → ℕ → ℕ → ℕ → Type 0
 Joined a b e t = (s : ℕ) × (has a e s ≡ true) × (has b s t ≡ true)
 

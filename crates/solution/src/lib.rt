@@ -10,4 +10,4 @@ mod table;
 mod words;
 
 pub use solution::Solution;
-pub use words::{all_of, itself, join, lead, one, row_of, shifted, single};
+pub use words::{all_of, itself, join, lead, one, row_of, shifted, single, without};

@@ -1,8 +1,14 @@
 //! Masks of eight statuses, and words of eight rows of eight statuses. A word is a relation: its row e has the statuses to
 //! which e leads.
-ghost use Rattle.std.specs.Prelude.{◌≡◌, ◌<◌, ℕ, true};
+ghost use Rattle.std.specs.Prelude.{◌≡◌, ◌<◌, ◌&&◌, ℕ, true, not};
 ghost use Rattle.app_model.specs.Masks.{in_mask};
-ghost use Rattle.solution.specs.Words.{has, IsMask, AreRows, IsShifted, Leads, Joined, Itself, IsOne};
+ghost use Rattle.solution.specs.Words.{has, IsMask, AreRows, IsShifted, Leads, Joined, JoinedBy, Itself, IsOne};
+
+// Status 0 in each row.
+const COLUMN: u64 = 0x0101_0101_0101_0101;
+
+// Each status in its own row.
+const DIAGONAL: u64 = 0x8040_2010_0804_0201;
 
 /// Whether the mask has the status.
 fn has_status(mask: u8, status: u8) -> bool
@@ -67,15 +73,13 @@ pub fn lead(mask: u8, word: u64) -> u8
     out
 }
 
-fn join_row(a: u64, b: u64, entry: u8) -> u8
-    requires { entry < 8 }
-    ensures { IsMask (Joined a b entry) result }
+// Row `status` of the second word, in each row of the first that has this status.
+fn spread(a: u64, b: u64, status: u8) -> u64
+    requires { status < 8 }
+    ensures { AreRows (JoinedBy a b status) 8 result }
 {
-    let row = row_of(a, entry);
-    if row == 0 {
-        return 0;
-    }
-    lead(row, b)
+    let rows = (a >> status) & COLUMN;
+    rows * row_of(b, status) as u64
 }
 
 /// Each row of a word, led on by the rows of another.
@@ -83,10 +87,17 @@ pub fn join(a: u64, b: u64) -> u64
     ensures { AreRows (Joined a b) 8 result }
 {
     let mut word = 0;
-    for entry in 0..8u8 {
-        word |= shifted(join_row(a, b, entry), entry);
+    for status in 0..8u8 {
+        word |= spread(a, b, status);
     }
     word
+}
+
+/// What a word has and another one has not.
+pub fn without(word: u64, other: u64) -> u64
+    ensures { (e s : ℕ) → has result e s ≡ (has word e s && not (has other e s)) }
+{
+    word & !other
 }
 
 /// The statuses of all rows.
@@ -100,24 +111,9 @@ pub fn all_of(word: u64) -> u8
     out
 }
 
-fn itself_row(mask: u8, status: u8) -> u8
-    requires { status < 8 }
-    ensures { IsMask (Itself mask status) result }
-{
-    if has_status(mask, status) {
-        single(status)
-    } else {
-        0
-    }
-}
-
 /// Each status of a mask in its own row.
 pub fn itself(mask: u8) -> u64
     ensures { AreRows (Itself mask) 8 result }
 {
-    let mut word = 0;
-    for status in 0..8u8 {
-        word |= shifted(itself_row(mask, status), status);
-    }
-    word
+    (mask as u64 * COLUMN) & DIAGONAL
 }

@@ -22,11 +22,11 @@ module _ (x : SubjectParts) (l : ℕ) (ms : AllMasks) (t : Facts) (facts : AreFa
       done m (method_there x l t facts m reached) reached i (rw (row_is x l t facts m reached) at there)
 
   closed_by : (needs : List Fact) (f : Fact) → Inside x l (ms x l) needs f → HasAll (holds t) needs → holds t f ≡ true
-  closed_by _ _ (I1 {m = m} {e = e} {i = i} {s = s} k own to mask) has = let v = visited m e i s has.0 in v.2.passed k e s _ _ (v.1 e s ∙ has.0) to mask
-  closed_by _ _ (I2 {m = m} {e = e} {i = i} {s = s} k own to mask) has = let v = visited m e i s has.0 in v.2.passed k e s _ _ (v.1 e s ∙ has.0) to mask
-  closed_by _ _ (I1_return {m = m} {e = e} {i = i} {s = s} is) has = let v = visited m e i s has.0 in v.2.returned e s (v.1 e s ∙ has.0) is
-  closed_by _ _ (I3 {m = m} {e = e} {i = i} {s = s} k to mask) has = let v = visited m e i s has.0 in (v.2.threw e s _ (v.1 e s ∙ has.0) mask).to k _ to
-  closed_by _ _ (I3_leaves {m = m} {e = e} {i = i} {s = s} is mask) has = let v = visited m e i s has.0 in (v.2.threw e s _ (v.1 e s ∙ has.0) mask).out is
+  closed_by _ _ (I1 {m = m} {e = e} {i = i} {s = s} k own to mask) has = let v = visited m e i s has.0 in (v.2.led e s (v.1 e s ∙ has.0)).passed k _ _ to mask
+  closed_by _ _ (I2 {m = m} {e = e} {i = i} {s = s} k own to mask) has = let v = visited m e i s has.0 in (v.2.led e s (v.1 e s ∙ has.0)).passed k _ _ to mask
+  closed_by _ _ (I1_return {m = m} {e = e} {i = i} {s = s} is) has = let v = visited m e i s has.0 in (v.2.led e s (v.1 e s ∙ has.0)).returned is
+  closed_by _ _ (I3 {m = m} {e = e} {i = i} {s = s} k to mask) has = let v = visited m e i s has.0 in ((v.2.led e s (v.1 e s ∙ has.0)).threw _ mask).to k _ to
+  closed_by _ _ (I3_leaves {m = m} {e = e} {i = i} {s = s} is mask) has = let v = visited m e i s has.0 in ((v.2.led e s (v.1 e s ∙ has.0)).threw _ mask).out is
   closed_by _ _ (C1 {m = m} {e = e} {i = i} {s = s} n called is) has = let v = visited m e i s has.0 in let c = v.2.called e s n (v.1 e s ∙ has.0) is called in c.2.entered e s c.1
   closed_by _ _ (C2 {m = m} {e = e} {i = i} {s = s} n called is to) has = let v = visited m e i s has.0 in let c = v.2.called e s n (v.1 e s ∙ has.0) is called in c.2.back e s _ _ c.1 has.1.0 to
   closed_by _ _ (C3 {m = m} {e = e} {i = i} {s = s} n k called is to) has = let v = visited m e i s has.0 in let c = v.2.called e s n (v.1 e s ∙ has.0) is called in (c.2.threw e s _ c.1 has.1.0).to k _ to

@@ -8,7 +8,7 @@ use Rattle.flow_model.specs.Derived.{Derived, by_rule, all_done, HasAll}
 use Rattle.flow_model.proofs.Laws.{one_more}
 use Rattle.solution.specs.Facts.{Facts, holds, facts_room, SameSize, Joins, HasPlaces}
 use Rattle.solution.specs.Words.{has}
-use Rattle.solver.specs.Turns.{AllMasks, RulesBy, Turn, Keeps, Each, Every, Follows, AreFacts, HasPlace}
+use Rattle.solver.specs.Turns.{AllMasks, RulesBy, Turn, Sure, Keeps, Each, Every, Follows, AreFacts, HasPlace, Grown, Nothing}
 
 -- facts of a set of derived ones are derived together
 pub all_derived : (rules : List Fact → Fact → Type 0) (given set : Fact → Bool) → ((f : Fact) → set f ≡ true → Derived rules given (f ∷ [])) → (fs : List Fact) → HasAll set fs → Derived rules given fs
@@ -101,10 +101,46 @@ module _ (rules : RulesBy) where
   pub turn_every : (part : ℕ → AllMasks → Facts → Type 0) (i : ℕ) (m n : AllMasks) (a b : Facts) (x : Bool) → ((k : ℕ) → i ≤ k → (g : AllMasks) (t : Facts) → part k g t) → Turn rules (Each part i) m n a b x → Turn rules (Every part) m n a b x
   turn_every part i m n a b x past = turn_as (Each part i) (Every part) m n a b x (λ same f k. ⊎_elim (f k) (λ le. past k le m b) (cases_lt k i))
 
+  -- ---- parts whose work lasts
+  pub turn_sure : (goal : AllMasks → Facts → Type 0) (m n : AllMasks) (a b : Facts) (x : Bool) → Sure rules goal m n a b x → Turn rules goal m n a b x
+  turn_sure goal m n a b x s = turn_as Nothing goal m n a b x (λ same u. s.done b (λ f h. h)) s.turn
+
+  pub sure_none : (goal : AllMasks → Facts → Type 0) (m : AllMasks) (t : Facts) → ((u : Facts) → Grown t u → goal m u) → Sure rules goal m m t t false
+  sure_none goal m t d = record { turn = turn_none Nothing m t tt; done = d }
+
+  pub sure_joins : (m : AllMasks) (old : Facts) (place : ℕ → ℕ → Fact) (w : ℕ) (new : Facts) (x : Bool) → Joins old place w new x
+      → ((e s : ℕ) → has w e s ≡ true → Follows (rules m) old (place e s))
+      → Sure rules (λ masks t. (e s : ℕ) → has w e s ≡ true → holds t (place e s) ≡ true) m m old new x
+  sure_joins m old place w new x j why = record { turn = turn_as _ Nothing m m old new x (λ same d. tt) (turn_joins m old place w new x j why); done = λ t more e s h. more _ (j.there e s h) }
+
+  pub sure_next : (first next both : AllMasks → Facts → Type 0) (k m n : AllMasks) (a b c : Facts) (x y : Bool) → ((t : Facts) → first k t → next k t → both k t) → Sure rules first k m a b x → Sure rules next m n b c y → Sure rules both k n a c (x || y)
+  sure_next first next both k m n a b c x y join s u =
+      let v : Sure rules next k n b c y = subst (λ (z : AllMasks). Sure rules next z n b c y) s.turn.masks u in
+      record {
+        turn = turn_next Nothing Nothing Nothing k m n a b c x y (λ t f g. tt) s.turn u.turn;
+        done = λ t more. join t (s.done t (λ f h. more f (v.turn.kept f h))) (v.done t more);
+      }
+
+  pub sure_as : (first then : AllMasks → Facts → Type 0) (m n : AllMasks) (a b : Facts) (x : Bool) → ((t : Facts) → first m t → then m t) → Sure rules first m n a b x → Sure rules then m n a b x
+  sure_as first then m n a b x why s = record { turn = s.turn; done = λ t more. why t (s.done t more) }
+
+  pub sure_masks : (goal : AllMasks → Facts → Type 0) (m n : AllMasks) (a b : Facts) (x : Bool) → n ≡ m → Sure rules goal m m a b x → Sure rules goal m n a b x
+  sure_masks goal m n a b x e s = subst (λ (z : AllMasks). Sure rules goal m z a b x) (sym e) s
+
+  pub sure_start : (part : ℕ → AllMasks → Facts → Type 0) (m : AllMasks) (t : Facts) → Sure rules (Each part 0) m m t t false
+  sure_start part m t = sure_none (Each part 0) m t (λ u more k h. absurd (omega arith))
+
+  pub sure_more : (part : ℕ → AllMasks → Facts → Type 0) (i : ℕ) (k m n : AllMasks) (a b c : Facts) (x y : Bool) → Sure rules (Each part i) k m a b x → Sure rules (part i) m n b c y → Sure rules (Each part (i + 1)) k n a c (x || y)
+  sure_more part i k m n a b c x y = sure_next (Each part i) (part i) (Each part (i + 1)) k m n a b c x y (λ t f g. below_more (λ j. part j k t) i f g)
+
+  -- a loop that ends where no number is left
+  pub sure_every : (part : ℕ → AllMasks → Facts → Type 0) (i : ℕ) (m n : AllMasks) (a b : Facts) (x : Bool) → ((k : ℕ) → i ≤ k → (g : AllMasks) (t : Facts) → part k g t) → Sure rules (Each part i) m n a b x → Sure rules (Every part) m n a b x
+  sure_every part i m n a b x past = sure_as (Each part i) (Every part) m n a b x (λ t f k. ⊎_elim (f k) (λ le. past k le m t) (cases_lt k i))
+
   -- a round falls, or it is the last one
-  pub round_falls : (first last : AllMasks → Facts → Type 0) (k m n : AllMasks) (a b c : Facts) (x y : Bool) → Turn rules first k m a b x → Turn rules last m n b c y → 2 * facts_room c + cond y 1 0 < 2 * facts_room a + 1
-  round_falls first last k m n a b c x true t u = let r = room_le first k m a b x t in let l = u.falls refl in omega arith
-  round_falls first last k m n a b c x false t u = let r = room_le first k m a b x t in let e = ap facts_room (u.same refl) in omega arith
+  pub round_falls : (goal : AllMasks → Facts → Type 0) (m n : AllMasks) (a b c : Facts) (changed : Bool) → facts_room b ≤ facts_room a → Turn rules goal m n b c changed → 2 * facts_room c + cond changed 1 0 < 2 * facts_room a + 1
+  round_falls goal m n a b c true le t = let r = t.falls refl in omega arith
+  round_falls goal m n a b c false le t = let e = ap facts_room (t.same refl) in omega arith
 
   -- parts that promise little
   pub keeps_none : (m : AllMasks) (t : Facts) → Keeps rules m m t t

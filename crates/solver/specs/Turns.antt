@@ -18,6 +18,13 @@ RulesBy = AllMasks → List Fact → Fact → Type 0
 abbrev pub InsideBy : SubjectParts → ℕ → RulesBy
 InsideBy x l masks = Inside x l (masks x l)
 
+-- no fact was lost
+abbrev pub Grown : Facts → Facts → Type 0
+Grown old new = (f : Fact) → holds old f ≡ true → holds new f ≡ true
+
+abbrev pub Nothing : AllMasks → Facts → Type 0
+Nothing masks t = Unit {0}
+
 -- all facts are derived from the given ones
 pub record IsBelow (rules : RulesBy) (masks : AllMasks) (given : Set) (t : Facts) : Type 0 where
   pub by : (f : Fact) → holds t f ≡ true → Derived (rules masks) given (f ∷ [])
@@ -26,7 +33,7 @@ pub record IsBelow (rules : RulesBy) (masks : AllMasks) (given : Set) (t : Facts
 pub record Turn (rules : RulesBy) (goal : AllMasks → Facts → Type 0) (was now : AllMasks) (old new : Facts) (changed : Bool) : Type 0 where
   pub masks : now ≡ was
   pub below : (given : Set) → IsBelow rules was given old → IsBelow rules was given new
-  pub kept : (f : Fact) → holds old f ≡ true → holds new f ≡ true
+  pub kept : Grown old new
   pub size : SameSize old new
   pub same : changed ≡ false → new ≡ old
   pub falls : changed ≡ true → facts_room new < facts_room old
@@ -36,7 +43,7 @@ pub record Turn (rules : RulesBy) (goal : AllMasks → Facts → Type 0) (was no
 pub record Keeps (rules : RulesBy) (was now : AllMasks) (old new : Facts) : Type 0 where
   pub masks : now ≡ was
   pub below : (given : Set) → IsBelow rules was given old → IsBelow rules was given new
-  pub kept : (f : Fact) → holds old f ≡ true → holds new f ≡ true
+  pub kept : Grown old new
   pub size : SameSize old new
   pub room : facts_room new ≤ facts_room old
 
@@ -45,6 +52,11 @@ pub record Follows (rules : List Fact → Fact → Type 0) (t : Facts) (f : Fact
   pub needs : List Fact
   pub by : rules needs f
   pub has : HasAll (holds t) needs
+
+-- a part that does this for good, whatever comes
+pub record Sure (rules : RulesBy) (goal : AllMasks → Facts → Type 0) (was now : AllMasks) (old new : Facts) (changed : Bool) : Type 0 where
+  pub turn : Turn rules Nothing was now old new changed
+  pub done : (t : Facts) → Grown new t → goal was t
 
 -- what is done for each number below a bound, and for each number
 abbrev pub Each : (ℕ → AllMasks → Facts → Type 0) → ℕ → AllMasks → Facts → Type 0
@@ -59,6 +71,13 @@ Step x l goal was now old new changed = Turn (InsideBy x l) goal was now old new
 
 abbrev pub Still : SubjectParts → ℕ → (AllMasks → Facts → Type 0) → (old new : Facts) → Bool → Type 0
 Still x l goal old new changed = (masks : AllMasks) → Turn (InsideBy x l) goal masks masks old new changed
+
+-- the same of parts whose work lasts
+abbrev pub LastingStep : SubjectParts → ℕ → (AllMasks → Facts → Type 0) → (was now : AllMasks) → (old new : Facts) → Bool → Type 0
+LastingStep x l goal was now old new changed = Sure (InsideBy x l) goal was now old new changed
+
+abbrev pub Lasting : SubjectParts → ℕ → (AllMasks → Facts → Type 0) → (old new : Facts) → Bool → Type 0
+Lasting x l goal old new changed = (masks : AllMasks) → Sure (InsideBy x l) goal masks masks old new changed
 
 -- facts of a subject and a lock field
 pub record AreFacts (x : SubjectParts) (l : ℕ) (t : Facts) : Type 0 where

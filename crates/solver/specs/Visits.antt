@@ -7,9 +7,9 @@ use Rattle.app_model.specs.Subject.{SubjectParts, callees_at, is_reached}
 use Rattle.app_model.specs.Words.{code_len, successor_at, handler_at, leaves_at}
 use Rattle.flow_model.specs.Derived.{HasAll}
 use Rattle.flow_model.specs.Subject.{is_open, returns_at}
-use Rattle.solution.specs.Facts.{Facts, holds}
+use Rattle.solution.specs.Facts.{Facts, holds, HasPlaces}
 use Rattle.solution.specs.Words.{has}
-use Rattle.solver.specs.Turns.{AllMasks, InsideBy, Each, Every, HasPlace, Turn}
+use Rattle.solver.specs.Turns.{AllMasks, InsideBy, Each, HasPlace, Sure, Keeps}
 
 -- the answers to status s, where the mask `seen` has it
 abbrev pub Asked : (ℕ → ℕ) → ℕ → ℕ → ℕ → Type 0
@@ -42,7 +42,7 @@ pub record AreThrown (x : SubjectParts) (l : ℕ) (masks : AllMasks) (t : Facts)
 
 -- what is done where the statuses of the word may be thrown
 abbrev pub WhereThrown : SubjectParts → (l m i w : ℕ) → (AllMasks → Facts → Type 0) → (old new : Facts) → Bool → Type 0
-WhereThrown x l m i w goal old new changed = (masks : AllMasks) → AreThrown x l masks old m i w → Turn (InsideBy x l) goal masks masks old new changed
+WhereThrown x l m i w goal old new changed = (masks : AllMasks) → AreThrown x l masks old m i w → Sure (InsideBy x l) goal masks masks old new changed
 
 -- ---- what is done: on to successor number k, and to all of them
 abbrev pub SuccessorPassed : SubjectParts → (l m i w : ℕ) → ℕ → AllMasks → Facts → Type 0
@@ -93,12 +93,30 @@ abbrev pub CallsDone : SubjectParts → (l m i w : ℕ) → AllMasks → Facts �
 CallsDone x l m i w masks t = (e s : ℕ) (n : MethodNo) → has w e s ≡ true → is_open x l m i s ≡ true → Contains (callees_at x m i) n
     → (v : ℕ) × (has v e s ≡ true) × IsCalled x m i v n.0 masks t
 
+-- all is there that follows from one fact of an instruction, but by its calls
+pub record IsLed (x : SubjectParts) (l m e i s : ℕ) (masks : AllMasks) (t : Facts) : Type 0 where
+  pub passed : (k j u : ℕ) → successor_at x.app m i k ≡ Some j → in_mask ((masks x l).passes m i k s) u ≡ true → holds t (At m e j u) ≡ true
+  pub threw : (u : ℕ) → in_mask ((masks x l).throws m i s) u ≡ true → IsThrown x t m i e u
+  pub returned : returns_at x m i ≡ true → holds t (Ret m e s) ≡ true
+
+-- from the facts of a word
+abbrev pub LedOn : SubjectParts → (l m i w : ℕ) → AllMasks → Facts → Type 0
+LedOn x l m i w masks t = (e s : ℕ) → has w e s ≡ true → IsLed x l m e i s masks t
+
+-- from each fact of the first ones
+pub record AreLed (x : SubjectParts) (l : ℕ) (masks : AllMasks) (led t : Facts) : Type 0 where
+  pub places : HasPlaces x led
+  pub done : (m e i s : ℕ) → holds led (At m e i s) ≡ true → IsLed x l m e i s masks t
+
+-- facts came near to what the rules derive, and those of `begun` were led on
+pub record Nears (x : SubjectParts) (l : ℕ) (was now : AllMasks) (old new begun : Facts) : Type 0 where
+  pub keeps : Keeps (InsideBy x l) was now old new
+  pub led : AreLed x l now begun new
+
 -- no rule leads out from an instruction with that word
 pub record IsDone (x : SubjectParts) (l m i w : ℕ) (masks : AllMasks) (t : Facts) : Type 0 where
-  pub passed : Every (SuccessorPassed x l m i w) masks t
-  pub threw : OwnThrown x l m i w masks t
+  pub led : LedOn x l m i w masks t
   pub called : CallsDone x l m i w masks t
-  pub returned : Returned x m i w masks t
 
 -- the word is what the facts say
 abbrev pub IsVisited : SubjectParts → (l m : ℕ) → ℕ → AllMasks → Facts → Type 0
@@ -109,6 +127,3 @@ MethodVisited x l m masks t = is_reached x m ≡ true → Each (IsVisited x l m)
 
 abbrev pub AllVisited : SubjectParts → (l : ℕ) → AllMasks → Facts → Type 0
 AllVisited x l masks t = Each (MethodVisited x l) (length x.app.methods) masks t
-
-abbrev pub Nothing : AllMasks → Facts → Type 0
-Nothing masks t = Unit {0}

@@ -1,14 +1,51 @@
-//! What is new at each place is led on, callees before what waits for them. It decides what to look at, and promises nothing.
-ghost use Rattle.std.specs.Prelude.{◌≡◌, ◌<◌, true, length};
+//! Facts are led on from a list of those that are new, callees before what waits for them. It promises only that no fact is
+//! wrong or lost, and which ones were led on.
+ghost use Rattle.std.specs.Prelude.{◌≡◌, ◌<◌, ℕ, true, false, length, IfOk};
+ghost use Rattle.app_model.specs.Facts.{Fact};
 ghost use Rattle.app_model.specs.Subject.{slot_count};
-ghost use Rattle.solver.specs.Turns.{AreFacts, HasPlace, IsPlace, Keeps, InsideBy};
+ghost use Rattle.solution.specs.Facts.{holds, HasPlaces};
+ghost use Rattle.solver.specs.Turns.{AllMasks, AreFacts, HasPlace, IsPlace, Keeps, InsideBy};
+ghost use Rattle.solver.specs.Visits.{AreLed, Nears};
 
+use crate::agenda::{Agenda, Look};
+use crate::calls::call_all;
 use crate::task::{Site, Task};
-use crate::visit::visit_part;
+use crate::visit::lead_new;
+use app_model::Subject;
 use flow_model::Rows;
-use ns_base::MethodNo;
-use solution::Solution;
+use ns_base::{MethodNo, OutOfMemory};
+use solution::{Solution, without};
 use std::alloc::{AllocError, Global};
+use std::marker::Model;
+
+/// The facts of instructions that were led on, which contracts see, and what is to be looked at.
+#[derive(Drop)]
+pub struct Worklist {
+    pub(crate) led: Solution,
+    pub(crate) agenda: Agenda,
+}
+
+impl Model for Worklist {
+    ghost use Rattle.solution.specs.Facts.{Facts};
+
+    ghost Value = { Facts };
+
+    ghost view = { λ w. w.led };
+}
+
+impl Worklist {
+    /// Nothing was led on.
+    pub fn new(alloc: Global, subject: &Subject) -> Result<Worklist, OutOfMemory>
+        ensures places { IfOk result (λ worklist. HasPlaces subject.now worklist) }
+        ensures empty { IfOk result (λ worklist. (f : Fact) → holds worklist f ≡ false) }
+    {
+        let led = Solution::new(alloc, subject)?;
+        match Agenda::new(alloc, subject.app.method_count()) {
+            Ok(agenda) => Ok(Worklist { led, agenda }),
+            Err(AllocError) => Err(OutOfMemory),
+        }
+    }
+}
 
 /// How a method ends, to see whether that grew.
 #[derive(Clone, Copy)]
@@ -17,147 +54,41 @@ struct Ends {
     thrown: u64,
 }
 
-/// What is to be looked at, the next one last, the facts of each place that were led on, and the calls of each method.
-#[derive(Drop)]
-struct Agenda {
-    looks: Vec<Site>,
-    passed: Vec<Vec<u64>>,
-    calls: Vec<Vec<Site>>,
-}
-
-impl Agenda {
-    fn passed(&self, site: Site) -> u64 {
-        let Some(row) = self.passed.get(site.method.0 as usize) else {
-            return u64::MAX;
-        };
-        match row.get(site.index as usize) {
-            Some(word) => *word,
-            None => u64::MAX,
-        }
-    }
-
-    fn pass(&mut self, site: Site, word: u64) {
-        let Some(row) = self.passed.get_mut(site.method.0 as usize) else {
-            return;
-        };
-        if let Some(passed) = row.get_mut(site.index as usize) {
-            *passed = word;
-        }
-    }
-
-    fn call(&self, callee: MethodNo, number: usize) -> Option<Site> {
-        let row = self.calls.get(callee.0 as usize)?;
-        row.get(number).copied()
-    }
-}
-
-// Notes a call at each of its callees.
-fn note_call(task: &Task, calls: &mut Vec<Vec<Site>>, site: Site) -> Result<(), AllocError>
-    requires { IsPlace task.now.subject.now task.now.lock.0 site.method.0 site.index }
-{
-    let callees = task.callees(site);
-    for number in 0..callees.len() {
-        if let Some(row) = calls.get_mut(callees[number].0 as usize) {
-            row.push(site)?;
-        }
-    }
-    Ok(())
-}
-
-fn note_calls(task: &Task, calls: &mut Vec<Vec<Site>>, method: MethodNo) -> Result<(), AllocError>
-    requires lock { task.now.lock.0 < slot_count task.now.subject.now }
-    requires method { method.0 < length task.now.subject.now.app.methods }
-{
-    for index in 0..task.code_len(method) {
-        let site = Site { method, index };
-        if is_place(task, site) {
-            note_call(task, calls, site)?;
-        }
-    }
-    Ok(())
-}
-
-fn calls_by_callee(alloc: Global, task: &Task) -> Result<Vec<Vec<Site>>, AllocError>
-    requires { task.now.lock.0 < slot_count task.now.subject.now }
-{
-    let mut calls = Vec::new(alloc);
-    for _ in 0..task.method_count() {
-        calls.push(Vec::new(alloc))?;
-    }
-    for method in 0..task.method_count() {
-        note_calls(task, &mut calls, MethodNo(method))?;
-    }
-    Ok(calls)
-}
-
-// What is taken as led on at first, by instruction: all but how the method was entered. Where more callbacks begin than at
-// the solution before, only that is new.
-fn passed_row(
-    alloc: Global,
-    task: &Task,
-    solution: &Solution,
-    method: MethodNo,
-) -> Result<Vec<u64>, AllocError>
-    requires facts { AreFacts task.now.subject.now task.now.lock.0 solution.now }
-    requires method { method.0 < length task.now.subject.now.app.methods }
-{
-    if !task.subject.reaches(method) {
-        return Ok(Vec::new(alloc));
-    }
-    let len = task.code_len(method);
-    let mut row = vec![in alloc; 0u64; len as usize]?;
-    for index in 1..len {
-        let word = solution.at_word(method, index);
-        if let Some(passed) = row.get_mut(index as usize) {
-            *passed = word;
-        }
-    }
-    Ok(row)
-}
-
-fn passed_rows(alloc: Global, task: &Task, solution: &Solution) -> Result<Vec<Vec<u64>>, AllocError>
-    requires { AreFacts task.now.subject.now task.now.lock.0 solution.now }
-{
-    let mut rows = Vec::new(alloc);
-    for method in 0..task.method_count() {
-        let row = passed_row(alloc, task, solution, MethodNo(method))?;
-        rows.push(row)?;
-    }
-    Ok(rows)
-}
-
-// Lists a place where a fact was not led on, and tells whether there is one.
+// Lists a place where a fact was not led on.
 fn list(
     task: &Task,
     solution: &Solution,
+    led: &Solution,
     agenda: &mut Agenda,
     site: Site,
-) -> Result<bool, AllocError>
-    requires { HasPlace task.now.subject.now task.now.lock.0 solution.now site.method.0 site.index }
+) -> Result<(), AllocError>
+    requires place { HasPlace task.now.subject.now task.now.lock.0 solution.now site.method.0 site.index }
+    requires led { HasPlaces task.now.subject.now led.now }
 {
     let _ = task;
-    let fresh = solution.at_word(site.method, site.index) & !agenda.passed(site);
-    if fresh == 0 {
-        return Ok(false);
+    let word = solution.at_word(site.method, site.index);
+    if without(word, led.at_word(site.method, site.index)) == 0 {
+        return Ok(());
     }
-    agenda.looks.push(site)?;
-    Ok(true)
+    agenda.list(site)
 }
 
 fn list_successors(
     task: &Task,
     solution: &Solution,
+    led: &Solution,
     agenda: &mut Agenda,
     site: Site,
 ) -> Result<(), AllocError>
-    requires { HasPlace task.now.subject.now task.now.lock.0 solution.now site.method.0 site.index }
+    requires place { HasPlace task.now.subject.now task.now.lock.0 solution.now site.method.0 site.index }
+    requires led { HasPlaces task.now.subject.now led.now }
 {
     let method = site.method;
     for number in 0..u32::MAX {
         let Some(index) = task.successor(site, number) else {
             return Ok(());
         };
-        list(task, solution, agenda, Site { method, index })?;
+        list(task, solution, led, agenda, Site { method, index })?;
     }
     Ok(())
 }
@@ -165,17 +96,19 @@ fn list_successors(
 fn list_handlers(
     task: &Task,
     solution: &Solution,
+    led: &Solution,
     agenda: &mut Agenda,
     site: Site,
 ) -> Result<(), AllocError>
-    requires { HasPlace task.now.subject.now task.now.lock.0 solution.now site.method.0 site.index }
+    requires place { HasPlace task.now.subject.now task.now.lock.0 solution.now site.method.0 site.index }
+    requires led { HasPlaces task.now.subject.now led.now }
 {
     let method = site.method;
     for number in 0..u32::MAX {
         let Some(index) = task.handler(site, number) else {
             return Ok(());
         };
-        list(task, solution, agenda, Site { method, index })?;
+        list(task, solution, led, agenda, Site { method, index })?;
     }
     Ok(())
 }
@@ -183,69 +116,41 @@ fn list_handlers(
 fn list_callees(
     task: &Task,
     solution: &Solution,
+    led: &Solution,
     agenda: &mut Agenda,
     site: Site,
 ) -> Result<(), AllocError>
-    requires { HasPlace task.now.subject.now task.now.lock.0 solution.now site.method.0 site.index }
+    requires place { HasPlace task.now.subject.now task.now.lock.0 solution.now site.method.0 site.index }
+    requires led { HasPlaces task.now.subject.now led.now }
 {
     let callees = task.callees(site);
     for number in 0..callees.len() {
         let method = callees[number];
-        list(task, solution, agenda, Site { method, index: 0 })?;
+        list(task, solution, led, agenda, Site { method, index: 0 })?;
     }
     Ok(())
 }
 
+// What an instruction led to, where `before` is how its method ended before.
 fn list_led(
     task: &Task,
     solution: &Solution,
+    led: &Solution,
     agenda: &mut Agenda,
     site: Site,
+    before: Ends,
 ) -> Result<(), AllocError>
-    requires { HasPlace task.now.subject.now task.now.lock.0 solution.now site.method.0 site.index }
+    requires place { HasPlace task.now.subject.now task.now.lock.0 solution.now site.method.0 site.index }
+    requires led { HasPlaces task.now.subject.now led.now }
 {
-    list_successors(task, solution, agenda, site)?;
-    list_handlers(task, solution, agenda, site)?;
-    list_callees(task, solution, agenda, site)
-}
-
-// A call is led on anew. Where something was new there already, it is listed.
-fn list_call(
-    task: &Task,
-    solution: &Solution,
-    agenda: &mut Agenda,
-    site: Site,
-) -> Result<(), AllocError>
-    requires { HasPlace task.now.subject.now task.now.lock.0 solution.now site.method.0 site.index }
-{
-    let _ = task;
-    let word = solution.at_word(site.method, site.index);
-    let fresh = word & !agenda.passed(site);
-    agenda.pass(site, 0);
-    if fresh == 0 && word != 0 {
-        agenda.looks.push(site)?;
+    list_successors(task, solution, led, agenda, site)?;
+    list_handlers(task, solution, led, agenda, site)?;
+    list_callees(task, solution, led, agenda, site)?;
+    let after = ends_of(task, solution, site);
+    if after.returned == before.returned && after.thrown == before.thrown {
+        return Ok(());
     }
-    Ok(())
-}
-
-// The calls of a method that are known.
-fn list_calls(
-    task: &Task,
-    solution: &Solution,
-    agenda: &mut Agenda,
-    callee: MethodNo,
-) -> Result<(), AllocError>
-    requires { AreFacts task.now.subject.now task.now.lock.0 solution.now }
-{
-    for number in 0..u64::MAX {
-        let Some(site) = agenda.call(callee, number as usize) else {
-            return Ok(());
-        };
-        if is_place(task, site) {
-            list_call(task, solution, agenda, site)?;
-        }
-    }
-    Ok(())
+    agenda.call_again(site.method)
 }
 
 fn ends_of(task: &Task, solution: &Solution, site: Site) -> Ends
@@ -256,17 +161,6 @@ fn ends_of(task: &Task, solution: &Solution, site: Site) -> Ends
         returned: solution.ret_word(site.method),
         thrown: solution.exc_word(site.method),
     }
-}
-
-// The facts that a look leads on: they count as led on from now.
-fn take(task: &Task, solution: &Solution, agenda: &mut Agenda, site: Site) -> u64
-    requires { HasPlace task.now.subject.now task.now.lock.0 solution.now site.method.0 site.index }
-{
-    let _ = task;
-    let word = solution.at_word(site.method, site.index);
-    let passed = agenda.passed(site);
-    agenda.pass(site, word);
-    word & !passed
 }
 
 fn is_place(task: &Task, site: Site) -> bool
@@ -286,66 +180,163 @@ fn look_at<R: Rows>(
     task: &Task,
     rows: &mut R,
     solution: &mut Solution,
+    led: &mut Solution,
     agenda: &mut Agenda,
     site: Site,
 ) -> Result<(), AllocError>
-    requires { AreFacts task.now.subject.now task.now.lock.0 solution.old }
-    ensures { Keeps (InsideBy task.now.subject.now task.now.lock.0) (R.masks rows.old) (R.masks rows.new) solution.old solution.new }
+    requires facts { AreFacts task.now.subject.now task.now.lock.0 solution.old }
+    requires led { AreLed task.now.subject.now task.now.lock.0 (R.masks rows.old) led.old solution.old }
+    ensures { Nears task.now.subject.now task.now.lock.0 (R.masks rows.old) (R.masks rows.new) solution.old solution.new led.new }
 {
     if !is_place(task, site) {
         return Ok(());
     }
-    let part = take(task, solution, agenda, site);
-    if part == 0 {
+    if led.at_word(site.method, site.index) == 0 {
+        agenda.wait(site, task.callees(site))?;
+    }
+    let before = ends_of(task, solution, site);
+    if !lead_new(task, rows, solution, led, site) {
+        return Ok(());
+    }
+    list_led(task, solution, led, agenda, site, before)
+}
+
+// A callee ends in new ways.
+fn call_again(
+    task: &Task,
+    solution: &mut Solution,
+    led: &Solution,
+    agenda: &mut Agenda,
+    site: Site,
+) -> Result<(), AllocError>
+    requires facts { AreFacts task.now.subject.now task.now.lock.0 solution.old }
+    requires led { HasPlaces task.now.subject.now led.now }
+    ensures { (masks : AllMasks) → Keeps (InsideBy task.now.subject.now task.now.lock.0) masks masks solution.old solution.new }
+{
+    if !is_place(task, site) {
         return Ok(());
     }
     let before = ends_of(task, solution, site);
-    visit_part(task, rows, solution, site, part);
-    list_led(task, solution, agenda, site)?;
-    let after = ends_of(task, solution, site);
-    if after.returned != before.returned || after.thrown != before.thrown {
-        list_calls(task, solution, agenda, site.method)?;
+    let word = solution.at_word(site.method, site.index);
+    if !call_all(task, solution, site, word) {
+        return Ok(());
     }
-    Ok(())
+    list_led(task, solution, led, agenda, site, before)
 }
 
-fn list_entered(task: &Task, solution: &Solution, agenda: &mut Agenda) -> Result<(), AllocError>
-    requires { AreFacts task.now.subject.now task.now.lock.0 solution.now }
-{
-    for number in 0..task.method_count() {
-        let site = Site {
-            method: MethodNo(number),
-            index: 0,
-        };
-        if is_place(task, site) {
-            list(task, solution, agenda, site)?;
-        }
-    }
-    Ok(())
-}
-
-/// Brings the facts near to the least ones. Where one callee's ends grow, its calls come again.
-pub fn approach<R: Rows>(
-    alloc: Global,
+fn look<R: Rows>(
     task: &Task,
     rows: &mut R,
     solution: &mut Solution,
+    led: &mut Solution,
+    agenda: &mut Agenda,
+    next: Look,
 ) -> Result<(), AllocError>
-    requires { AreFacts task.now.subject.now task.now.lock.0 solution.old }
-    ensures { Keeps (InsideBy task.now.subject.now task.now.lock.0) (R.masks rows.old) (R.masks rows.new) solution.old solution.new }
+    requires facts { AreFacts task.now.subject.now task.now.lock.0 solution.old }
+    requires led { AreLed task.now.subject.now task.now.lock.0 (R.masks rows.old) led.old solution.old }
+    ensures { Nears task.now.subject.now task.now.lock.0 (R.masks rows.old) (R.masks rows.new) solution.old solution.new led.new }
 {
-    let mut agenda = Agenda {
-        looks: Vec::new(alloc),
-        passed: passed_rows(alloc, task, solution)?,
-        calls: calls_by_callee(alloc, task)?,
-    };
-    list_entered(task, solution, &mut agenda)?;
-    // A bounded loop needs no measure.
-    for _ in 0..u64::MAX {
-        let Some(site) = agenda.looks.pop() else {
-            return Ok(());
-        };
-        look_at(task, rows, solution, &mut agenda, site)?;
+    match next {
+        Look::Place(site) => look_at(task, rows, solution, led, agenda, site),
+        Look::Call(site) => call_again(task, solution, led, agenda, site),
+    }
+}
+
+fn list_method(
+    task: &Task,
+    solution: &Solution,
+    led: &Solution,
+    agenda: &mut Agenda,
+    method: MethodNo,
+    limit: u32,
+) -> Result<(), AllocError>
+    requires facts { AreFacts task.now.subject.now task.now.lock.0 solution.now }
+    requires method { method.0 < length task.now.subject.now.app.methods }
+    requires led { HasPlaces task.now.subject.now led.now }
+{
+    if !task.subject.reaches(method) {
+        return Ok(());
+    }
+    for index in 0..limit.min(task.code_len(method)) {
+        list(task, solution, led, agenda, Site { method, index })?;
     }
     Ok(())
+}
+
+/// Lists the places where facts were not led on, so many in front of each method.
+pub fn list_new(
+    task: &Task,
+    solution: &Solution,
+    led: &Solution,
+    agenda: &mut Agenda,
+    limit: u32,
+) -> Result<(), AllocError>
+    requires facts { AreFacts task.now.subject.now task.now.lock.0 solution.now }
+    requires led { HasPlaces task.now.subject.now led.now }
+{
+    for method in 0..task.method_count() {
+        list_method(task, solution, led, agenda, MethodNo(method), limit)?;
+    }
+    Ok(())
+}
+
+/// Looks at all that is listed, and at what comes to the list.
+pub fn work_off<R: Rows>(
+    task: &Task,
+    rows: &mut R,
+    solution: &mut Solution,
+    led: &mut Solution,
+    agenda: &mut Agenda,
+) -> Result<(), AllocError>
+    requires facts { AreFacts task.now.subject.now task.now.lock.0 solution.old }
+    requires led { AreLed task.now.subject.now task.now.lock.0 (R.masks rows.old) led.old solution.old }
+    ensures { Nears task.now.subject.now task.now.lock.0 (R.masks rows.old) (R.masks rows.new) solution.old solution.new led.new }
+{
+    // A bounded loop needs no measure.
+    for _ in 0..u64::MAX {
+        let Some(next) = agenda.next() else {
+            return Ok(());
+        };
+        look(task, rows, solution, led, agenda, next)?;
+    }
+    Ok(())
+}
+
+fn lead_entered<R: Rows>(
+    task: &Task,
+    rows: &mut R,
+    solution: &mut Solution,
+    led: &mut Solution,
+    agenda: &mut Agenda,
+) -> Result<(), AllocError>
+    requires facts { AreFacts task.now.subject.now task.now.lock.0 solution.old }
+    requires led { AreLed task.now.subject.now task.now.lock.0 (R.masks rows.old) led.old solution.old }
+    ensures { Nears task.now.subject.now task.now.lock.0 (R.masks rows.old) (R.masks rows.new) solution.old solution.new led.new }
+{
+    list_new(task, solution, led, agenda, 1)?;
+    work_off(task, rows, solution, led, agenda)
+}
+
+/// Brings the facts near to all that the rules inside callbacks derive from them, where only the starts of methods have facts
+/// that were not led on.
+pub fn approach_calls<R: Rows>(
+    task: &Task,
+    rows: &mut R,
+    solution: &mut Solution,
+    worklist: &mut Worklist,
+) -> Result<(), OutOfMemory>
+    requires facts { AreFacts task.now.subject.now task.now.lock.0 solution.old }
+    requires led { AreLed task.now.subject.now task.now.lock.0 (R.masks rows.old) worklist.old solution.old }
+    ensures { Nears task.now.subject.now task.now.lock.0 (R.masks rows.old) (R.masks rows.new) solution.old solution.new worklist.new }
+{
+    match lead_entered(
+        task,
+        rows,
+        solution,
+        &mut worklist.led,
+        &mut worklist.agenda,
+    ) {
+        Ok(()) => Ok(()),
+        Err(AllocError) => Err(OutOfMemory),
+    }
 }

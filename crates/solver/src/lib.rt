@@ -2,9 +2,11 @@
 //!
 //! - `task` has the subject and the lock, and places in its code.
 //! - `ask` asks the masks of an instruction; `throws`, `calls` and `visit` apply the rules from it.
-//! - `sweep` visits all instructions until nothing changes; `approach` first leads on what is new, from a worklist of places.
+//! - `approach` leads on what is new, from a list of places, which `agenda` keeps; `sweep` visits all instructions until nothing
+//!   changes.
 #![tactic(auto)]
 
+mod agenda;
 mod approach;
 mod ask;
 mod calls;
@@ -13,4 +15,6 @@ mod task;
 mod throws;
 mod visit;
 
-pub use sweep::solve_calls;
+pub use approach::{Worklist, approach_calls};
+pub use sweep::{settle, solve_calls};
+pub use task::Task;

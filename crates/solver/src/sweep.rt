@@ -5,10 +5,11 @@ ghost use Rattle.app_model.specs.Subject.{slot_count};
 ghost use Rattle.flow_model.specs.Derived.{Derived, IsLeast};
 ghost use Rattle.flow_model.specs.Rules.{Inside};
 ghost use Rattle.solution.specs.Facts.{holds, facts_room, HasPlaces};
-ghost use Rattle.solver.specs.Turns.{Step, AreFacts};
-ghost use Rattle.solver.specs.Visits.{MethodVisited, AllVisited, Nothing};
+ghost use Rattle.solver.specs.Turns.{Step, AreFacts, Grown};
+ghost use Rattle.solver.specs.Visits.{MethodVisited, AllVisited, AreLed};
 
-use crate::approach::approach;
+use crate::agenda::Agenda;
+use crate::approach::{Worklist, list_new, work_off};
 use crate::task::{Site, Task};
 use crate::visit::visit;
 use app_model::Subject;
@@ -17,14 +18,16 @@ use ns_base::{LockNo, MethodNo, OutOfMemory};
 use solution::Solution;
 use std::alloc::{AllocError, Global};
 
-pub fn visit_method<R: Rows>(
+fn visit_method<R: Rows>(
     task: &Task,
     rows: &mut R,
     solution: &mut Solution,
+    led: &Solution,
     method: MethodNo,
 ) -> bool
     requires facts { AreFacts task.now.subject.now task.now.lock.0 solution.old }
     requires method { method.0 < length task.now.subject.now.app.methods }
+    requires led { AreLed task.now.subject.now task.now.lock.0 (R.masks rows.old) led.now solution.old }
     ensures { Step task.now.subject.now task.now.lock.0 (MethodVisited task.now.subject.now task.now.lock.0 method.0) (R.masks rows.old) (R.masks rows.new) solution.old solution.new result }
 {
     if !task.subject.reaches(method) {
@@ -32,57 +35,79 @@ pub fn visit_method<R: Rows>(
     }
     let mut changed = false;
     for index in 0..task.code_len(method) {
-        changed |= visit(task, rows, solution, Site { method, index });
+        changed |= visit(task, rows, solution, led, Site { method, index });
     }
     changed
 }
 
-// The methods in rising order.
-fn rise<R: Rows>(task: &Task, rows: &mut R, solution: &mut Solution) -> bool
-    requires { AreFacts task.now.subject.now task.now.lock.0 solution.old }
+// All methods.
+fn rise<R: Rows>(task: &Task, rows: &mut R, solution: &mut Solution, led: &Solution) -> bool
+    requires facts { AreFacts task.now.subject.now task.now.lock.0 solution.old }
+    requires led { AreLed task.now.subject.now task.now.lock.0 (R.masks rows.old) led.now solution.old }
     ensures { Step task.now.subject.now task.now.lock.0 (AllVisited task.now.subject.now task.now.lock.0) (R.masks rows.old) (R.masks rows.new) solution.old solution.new result }
 {
     let mut changed = false;
     for method in 0..task.method_count() {
-        changed |= visit_method(task, rows, solution, MethodNo(method));
+        changed |= visit_method(task, rows, solution, led, MethodNo(method));
     }
     changed
 }
 
-// The methods in falling order; this promises nothing.
-fn fall<R: Rows>(task: &Task, rows: &mut R, solution: &mut Solution) -> bool
-    requires { AreFacts task.now.subject.now task.now.lock.0 solution.old }
-    ensures { Step task.now.subject.now task.now.lock.0 Nothing (R.masks rows.old) (R.masks rows.new) solution.old solution.new result }
-{
-    let mut changed = false;
-    for method in (0..task.method_count()).rev() {
-        changed |= visit_method(task, rows, solution, MethodNo(method));
-    }
-    changed
-}
-
-// The methods in a good order first. Then a sweep that adds nothing shows that nothing is missing.
+// The list first. Then a sweep that adds nothing shows that nothing is missing.
 fn sweep_all<R: Rows>(
-    alloc: Global,
     task: &Task,
     rows: &mut R,
     solution: &mut Solution,
+    led: &mut Solution,
+    agenda: &mut Agenda,
 ) -> Result<(), AllocError>
-    requires { AreFacts task.now.subject.now task.now.lock.0 solution.old }
+    requires facts { AreFacts task.now.subject.now task.now.lock.0 solution.old }
+    requires led { AreLed task.now.subject.now task.now.lock.0 (R.masks rows.old) led.old solution.old }
     ensures least { OnOk result (IsLeast (Inside task.now.subject.now task.now.lock.0 (R.masks rows.old task.now.subject.now task.now.lock.0)) (holds solution.old) (holds solution.new)) }
-    ensures kept { (f : Fact) → holds solution.old f ≡ true → holds solution.new f ≡ true }
+    ensures kept { Grown solution.old solution.new }
     ensures sound { (f : Fact) → holds solution.new f ≡ true → Derived (Inside task.now.subject.now task.now.lock.0 (R.masks rows.old task.now.subject.now task.now.lock.0)) (holds solution.old) (f ∷ []) }
     ensures places { HasPlaces task.now.subject.now solution.new }
     ensures room { facts_room solution.new ≤ facts_room solution.old }
     ensures rows { R.masks rows.new ≡ R.masks rows.old }
+    ensures led { AreLed task.now.subject.now task.now.lock.0 (R.masks rows.new) led.new solution.new }
 {
-    approach(alloc, task, rows, solution)?;
-    let mut changed = rise(task, rows, solution);
+    let mut changed = true;
     while changed {
-        fall(task, rows, solution);
-        changed = rise(task, rows, solution);
+        list_new(task, solution, led, agenda, u32::MAX)?;
+        work_off(task, rows, solution, led, agenda)?;
+        changed = rise(task, rows, solution, led);
     }
     Ok(())
+}
+
+/// Adds to the facts all that the rules inside callbacks derive from them. After want of memory the old facts are there,
+/// and every fact is derived from them.
+pub fn settle<R: Rows>(
+    task: &Task,
+    rows: &mut R,
+    solution: &mut Solution,
+    worklist: &mut Worklist,
+) -> Result<(), OutOfMemory>
+    requires facts { AreFacts task.now.subject.now task.now.lock.0 solution.old }
+    requires led { AreLed task.now.subject.now task.now.lock.0 (R.masks rows.old) worklist.old solution.old }
+    ensures least { OnOk result (IsLeast (Inside task.now.subject.now task.now.lock.0 (R.masks rows.old task.now.subject.now task.now.lock.0)) (holds solution.old) (holds solution.new)) }
+    ensures kept { Grown solution.old solution.new }
+    ensures sound { (f : Fact) → holds solution.new f ≡ true → Derived (Inside task.now.subject.now task.now.lock.0 (R.masks rows.old task.now.subject.now task.now.lock.0)) (holds solution.old) (f ∷ []) }
+    ensures places { HasPlaces task.now.subject.now solution.new }
+    ensures room { facts_room solution.new ≤ facts_room solution.old }
+    ensures rows { R.masks rows.new ≡ R.masks rows.old }
+    ensures led { AreLed task.now.subject.now task.now.lock.0 (R.masks rows.new) worklist.new solution.new }
+{
+    match sweep_all(
+        task,
+        rows,
+        solution,
+        &mut worklist.led,
+        &mut worklist.agenda,
+    ) {
+        Ok(()) => Ok(()),
+        Err(AllocError) => Err(OutOfMemory),
+    }
 }
 
 /// Adds to the facts all that the rules inside callbacks derive from them: I1 to I3 and C1 to C3. After want of memory the
@@ -104,8 +129,6 @@ pub fn solve_calls<R: Rows>(
     ensures rows { R.masks rows.new ≡ R.masks rows.old }
 {
     subject.told();
-    match sweep_all(alloc, &Task { subject, lock }, rows, solution) {
-        Ok(()) => Ok(()),
-        Err(AllocError) => Err(OutOfMemory),
-    }
+    let mut worklist = Worklist::new(alloc, subject)?;
+    settle(&Task { subject, lock }, rows, solution, &mut worklist)
 }

@@ -2,7 +2,7 @@
 ghost use Rattle.std.specs.Prelude.{◌≡◌, Some};
 ghost use Rattle.app_model.specs.Words.{handler_at};
 ghost use Rattle.solution.specs.Facts.{SameSize};
-ghost use Rattle.solver.specs.Turns.{Step, HasPlace, Every};
+ghost use Rattle.solver.specs.Turns.{LastingStep, HasPlace, Every};
 ghost use Rattle.solver.specs.Visits.{IsHere, WhereThrown, ThrownTo, ThrownOut, Thrown, OwnThrown};
 
 use crate::ask::ask_throws;
@@ -65,7 +65,7 @@ pub fn throw_own<R: Rows>(
     word: u64,
 ) -> bool
     requires { IsHere task.now.subject.now task.now.lock.0 solution.old site.method.0 site.index word }
-    ensures { Step task.now.subject.now task.now.lock.0 (OwnThrown task.now.subject.now task.now.lock.0 site.method.0 site.index word) (R.masks rows.old) (R.masks rows.new) solution.old solution.new result }
+    ensures { LastingStep task.now.subject.now task.now.lock.0 (OwnThrown task.now.subject.now task.now.lock.0 site.method.0 site.index word) (R.masks rows.old) (R.masks rows.new) solution.old solution.new result }
 {
     let masks = ask_throws(task, rows, site, all_of(word));
     throw_all(task, solution, site, join(word, masks))

@@ -8,8 +8,9 @@ use Rattle.flow_model.specs.Rules.{Inside, Starts, Between, Carries, V1, V2, V3,
 use Rattle.flow_model.proofs.Laws.{least, derived_again, wider}
 use Rattle.solution.specs.Facts.{Facts, holds}
 use Rattle.solution.proofs.Facts.{view_place}
-use Rattle.solver.specs.Turns.{AllMasks, AreFacts, IsBelow}
+use Rattle.solver.specs.Turns.{AllMasks, AreFacts, IsBelow, InsideBy, Keeps}
 use Rattle.solver.proofs.Turns.{all_derived}
+use Rattle.solver.proofs.Closed.{given_below}
 use Rattle.view_solver.specs.Views.{Whole, WholeBy, AllDone, ComponentDone}
 
 -- the least solution is closed
@@ -19,6 +20,16 @@ least_closed rules given set is = record { by = λ needs f rule held. is.complet
 -- what is derived inside callbacks is derived by all rules
 pub whole_below : (x : SubjectParts) (l : ℕ) (ms : AllMasks) (given : Set) (old new : Facts) → IsBelow (WholeBy x l) ms given old → ((f : Fact) → holds new f ≡ true → Derived (Inside x l (ms x l)) (holds old) (f ∷ [])) → IsBelow (WholeBy x l) ms given new
 whole_below x l ms given old new below sound = record { by = λ f h. derived_again (WholeBy x l ms) given (holds old) below.by (wider (Inside x l (ms x l)) (WholeBy x l ms) (λ needs g r. inl (inl r)) (holds old) (sound f h)) }
+
+-- what keeps by the rules inside callbacks, keeps by all
+pub whole_keeps : (x : SubjectParts) (l : ℕ) (k n : AllMasks) (old new : Facts) → Keeps (InsideBy x l) k n old new → Keeps (WholeBy x l) k n old new
+whole_keeps x l k n old new keeps = record {
+  masks = keeps.masks;
+  below = λ given h. whole_below x l k given old new h (keeps.below (holds old) (given_below (InsideBy x l) k old)).by;
+  kept = keeps.kept;
+  size = keeps.size;
+  room = keeps.room;
+}
 
 module _ (x : SubjectParts) (l : ℕ) (ms : AllMasks) (t : Facts) (facts : AreFacts x l t) (inside : IsClosed (Inside x l (ms x l)) (holds t)) (done : AllDone x l ms t) where
   component_done : (c q s : ℕ) → holds t (View c q s) ≡ true → ComponentDone x l c ms t

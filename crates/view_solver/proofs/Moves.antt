@@ -1,6 +1,7 @@
 -- The rules between callbacks, and their starts, by words.
-use Rattle.std.proofs.Common.{◌≡◌, ◌≢◌, ℕ, ◌<◌, Bool, true, false, List, [], ◌∷◌, Option, Some, None, length, refl, sym, ap, ◌∙◌, subst, inl, inr, arith}
-use Rattle.std.specs.Prelude.{◌||◌}
+use Rattle.std.proofs.Common.{◌≡◌, ◌≢◌, ℕ, ◌<◌, Bool, true, false, List, [], ◌∷◌, Option, Some, None, length, refl, sym, ap, ◌∙◌, subst, ⊎_elim, inl, inr, arith}
+use Rattle.std.specs.Prelude.{◌||◌, ◌&&◌, not}
+use Rattle.std.proofs.lemmas.Bool.{cases_Bool}
 use Rattle.app_model.specs.Components.{edge_at, callback_at}
 use Rattle.app_model.specs.Facts.{Fact, View, At}
 use Rattle.app_model.specs.Masks.{in_mask}
@@ -10,7 +11,8 @@ use Rattle.flow_model.specs.Rules.{Between, V1, V2, V3, V4, V5, Carries, entered
 use Rattle.solution.specs.Facts.{Facts, holds, Joins}
 use Rattle.solution.specs.Words.{has, IsMask, AreRows, IsShifted, IsOne, Joined, Itself, Leads}
 use Rattle.solution.specs.Table.{word}
-use Rattle.solution.proofs.Bits.{has_true, mask_true}
+use Rattle.solution.proofs.Bits.{has_true, mask_true, none_has}
+use Rattle.solution.proofs.Products.{and_not}
 use Rattle.solver.specs.Turns.{AllMasks, Turn, Each, Every, Follows}
 use Rattle.solver.proofs.Turns.{has_all_kept, turn_none, turn_joins, turn_next, turn_as}
 use Rattle.view_solver.specs.Views.{WholeBy, EnteredBy, Carried, Moves, Begun, Started, MovedOn, IsEdgeDone, EdgeDone, Watched, Told, ComponentDone}
@@ -98,6 +100,13 @@ module _ (x : SubjectParts) (l : ℕ) where
   tell_turn ms d w old new b rows =
       turn_as (WholeBy x l) (Each (Watched w d) (length x.list)) (Told x l d) ms ms old new b
       (λ same f c q s u lt ne h moves. f c lt ne q s u h (rows.there s u (view_below new c q s h) (subst (λ t. Moves x l t d s u) same moves)))
+
+  pub tell_none : (ms : AllMasks) (d w own rest : ℕ) (t : Facts) → AreRows (Moves x l t d) 8 w → AreRows (Itself 255) 8 own → ((e s : ℕ) → has rest e s ≡ (has w e s && not (has own e s))) → rest ≡ 0 → Turn (WholeBy x l) (Told x l d) ms ms t t false
+  tell_none ms d w own rest t rows o without none =
+      turn_none (WholeBy x l) (Told x l d) ms t (λ c q s u lt ne h moves. ⊎_elim
+          (λ yes. (let same = (o.only s u yes).0 in rw same h))
+          (λ off. absurd (let led = rows.there s u (view_below t c q s h) moves in none_has s u (rw none at (without s u ∙ and_not _ _ led off))))
+          (cases_Bool (has own s u)))
 
   pub component_turn : (ms : AllMasks) (c : ℕ) (t u v w : Facts) (p q r : Bool) → Turn (WholeBy x l) (Begun c) ms ms t u p → Turn (WholeBy x l) (Every (EdgeDone x l c)) ms ms u v q → Turn (WholeBy x l) (Told x l c) ms ms v w r → Turn (WholeBy x l) (ComponentDone x l c) ms ms t w (p || q || r)
   component_turn ms c t u v w p q r f g h =

@@ -8,7 +8,7 @@ use crate::carrying::{carry_word, enter_word, moves};
 use crate::edges::{component_count, edge_of, edges_of};
 use app_model::{Edge, Subject};
 use ns_base::{ComponentNo, LockNo};
-use solution::{Solution, itself, join, lead, one, shifted};
+use solution::{Solution, itself, join, lead, one, shifted, without};
 
 fn begin(subject: &Subject, lock: LockNo, solution: &mut Solution, component: ComponentNo) -> bool
     requires facts { AreFacts subject.now lock.0 solution.old }
@@ -133,12 +133,16 @@ fn tell_each(
     changed
 }
 
+// Moves that change no status are nothing to the others.
 fn tell(subject: &Subject, lock: LockNo, solution: &mut Solution, mover: ComponentNo) -> bool
     requires facts { AreFacts subject.now lock.0 solution.old }
     requires mover { mover.0 < length subject.now.list }
     ensures { Moved subject.now lock.0 (Told subject.now lock.0 mover.0) solution.old solution.new result }
 {
     let moved = moves(subject, lock, solution, mover);
+    if without(moved, itself(255)) == 0 {
+        return false;
+    }
     tell_each(subject, lock, solution, mover, moved)
 }
 

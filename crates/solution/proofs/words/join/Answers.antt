@@ -1,12 +1,12 @@
 use Rattle.std.proofs.Common.{arith}
-use Rattle.solution.proofs.Bits.{rows_none, rows_more, rows_end}
+use Rattle.solution.proofs.Products.{joined_none, joined_more, joined_all}
 use Rattle.solution.proofs.words.join.Goals as goal
 
-pub loop-entry-init : goal.loop-entry-init
-loop-entry-init c = rows_none _
+pub loop-status-init : goal.loop-status-init
+loop-status-init c = joined_none _ _
 
-pub loop-entry-preserved : goal.loop-entry-preserved
-loop-entry-preserved c = rows_more _ _ _ _ _ c.loop-entry.invariant c.join_row.ensures c.shifted-word.ensures
+pub loop-status-preserved : goal.loop-status-preserved
+loop-status-preserved c = joined_more _ _ _ _ _ c.loop-status.invariant c.spread-word.ensures
 
 pub returns : goal.returns
-returns c = rows_end _ _ _ (omega (arith, c.loop-entry-test.false)) c.loop-entry.invariant
+returns c = joined_all _ _ _ _ (omega (arith, c.loop-status-test.false)) c.loop-status.invariant

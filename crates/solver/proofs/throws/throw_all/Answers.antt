@@ -9,6 +9,6 @@ pub returns : goal.returns
 returns c = record {
   turn = λ masks can.
       (let t = c.throw_to_all-to.ensures.turn masks can in
-      throw_turn _ _ _ _ _ _ _ _ _ _ _ t (c.throw_out-out.ensures.turn masks (thrown_kept _ _ _ _ _ _ _ _ t.kept can)));
+      throw_turn _ _ _ _ _ _ _ _ _ _ _ t (c.throw_out-out.ensures.turn masks (thrown_kept _ _ _ _ _ _ _ _ t.turn.kept can)));
   size = size_more _ _ _ c.throw_to_all-to.ensures.size c.throw_out-out.ensures.size;
 }
