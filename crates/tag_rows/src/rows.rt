@@ -4,8 +4,8 @@ ghost use Rattle.app_model.specs.TagTable.{HasCell, IsTagTable, cell_at, cell_co
 ghost use Rattle.tag_rows.specs.Cells.{Joins, cells_len, tag_there};
 ghost use Rattle.tag_rows.specs.Runs.{Runs};
 
-use crate::runs::{Pair, Run, join_run};
-use act_model::{Row, join};
+use crate::runs::{Pair, Run, join_cell, join_run};
+use act_model::Row;
 use app_model::{Tag, TagTable};
 use ns_base::MethodNo;
 use std::marker::Model;
@@ -80,28 +80,17 @@ impl Rows {
         Tag::of_cell(self.cell(method, place))
     }
 
-    #[tactic(auto, unfolding(app_model::specs::TagTable::with_cell))]
-    fn put(&mut self, method: MethodNo, place: usize, cell: u16)
-        requires place { place < cells_len self.old method.0 }
-        requires fits { cell < cell_count }
-        ensures { self.new ≡ with_cell self.old method.0 place cell }
-    {
-        self.cells[method.0 as usize][place] = cell;
-    }
-
     /// Joins a tag into a cell, and tells whether the cell changed.
     pub fn join(&mut self, method: MethodNo, place: usize, tag: Tag) -> bool
         requires place { place < cells_len self.old method.0 }
         requires tag { HasCell tag }
         ensures { Joins self.old method.0 place tag self.new result }
     {
-        let before = self.tag(method, place);
-        let joined = join(before, tag);
-        if joined == before {
-            return false;
-        }
-        self.put(method, place, joined.cell());
-        true
+        join_cell(
+            self.cells[method.0 as usize].as_mut_slice(),
+            place,
+            tag.cell(),
+        )
     }
 
     /// Joins the tags of registers from a first one on, up to one that does not flow as it is.
