@@ -1,5 +1,5 @@
 -- Joins into a method's cells, and runs of them.
-use Rattle.std.proofs.Common.{◌≡◌, ◌≢◌, ℕ, zero, suc, ◌+◌, ◌-◌, ◌<◌, ◌≤◌, List, [], Bool, true, false, length, get_or, set, refl, sym, ap, ◌∙◌, subst, ⊎_elim, arith, length-set, map, take, drop, ◌++◌}
+use Rattle.std.proofs.Common.{◌≡◌, ◌≢◌, ℕ, zero, suc, ◌+◌, ◌-◌, ◌*◌, ◌<◌, ◌≤◌, List, [], Bool, true, false, length, get_or, set, refl, sym, ap, ◌∙◌, subst, ⊎_elim, arith, length-set, map, take, drop, ◌++◌}
 use Rattle.std.proofs.Math.Seq.{take-append_seam}
 use Rattle.std.specs.List.{slice_range}
 use Rattle.std.specs.Vec.{with_items}
@@ -7,11 +7,12 @@ use Rattle.std.specs.declared.alloc.Global.{Global}
 use Rattle.std.specs.declared.vec.Vec.{Vec}
 use Rattle.std.proofs.lemmas.List.Elements.{All-set}
 use Rattle.std.proofs.lemmas.Bool.{cases_lt}
-use Rattle.std.proofs.lemmas.List.{get_or-drop, get_or-map, get_or_past, get_or-set_same, get_or-take, length-map, map-set, set-get_or, set-set}
-use Rattle.app_model.specs.TagTable.{IsTagTable, TagParts, cell_at, cell_count, cell_of, tag_of, with_cell}
+use Rattle.std.proofs.lemmas.List.{get_or-drop, get_or-map, get_or_past, get_or-set_same, get_or-take, length-drop, length-map, length-take-le, same_lists, map-set, set-get_or, set-set}
+use Rattle.std.proofs.lemmas.List.FromFn.{get_or-map-range_with_len}
+use Rattle.app_model.specs.TagTable.{IsTagTable, TagParts, cell_at, cell_count, cell_of, row_at, tag_of, width_at, with_cell}
 use Rattle.app_model.specs.declared.tag.Tag.{Tag}
 use Rattle.app_model.specs.declared.tag.Tag.TheVariants.{Bot}
-use Rattle.app_model.proofs.Cells.{cell_again, has_cell}
+use Rattle.app_model.proofs.Cells.{cell_again, has_cell, length-row_at}
 use Rattle.tag_rows.specs.declared.runs.Pair.{Pair}
 use Rattle.tag_rows.specs.Cells.{Joins, tag_there}
 use Rattle.tag_rows.specs.Runs.{AreCells, AreJoined, JoinsIn, stays, rises, RunIn, no_cell, next_cell, Runs, no_step, next_step, tag_of_place}
@@ -104,8 +105,27 @@ module _ (t : TagParts) (m : ℕ) (there : m < length t.cells) where
   pub runs_in : (pair : Pair) (start end : ℕ) (new : List ℕ) (x : Bool) → end ≤ pair.width → pair.to + pair.width ≤ length own → RunIn pair start own end new x → Runs pair m start t end (with_row t m new) x
   runs_in pair start end new x le fits run = subst (λ (u : TagParts). Runs pair m start u end (with_row t m new) x) row_back (runs_there t m there pair start own end new x le fits run)
 
+-- the tags of a row that lies in a method's cells
+pub row_cells : (t : TagParts) (m i w : ℕ) → w ≡ width_at t m → i * w + w ≤ length (get_or t.cells m []) → map tag_of (slice_range (get_or t.cells m []) (i * w) (i * w + w)) ≡ row_at t m i
+unfolding row_at cell_at
+row_cells t m i w is le = same_lists _ _ (len ∙ is ∙ sym (length-row_at t m i)) (λ k d lt. at k d (omega (arith, lt, len)))
+  where
+    part : List ℕ
+    part = slice_range (get_or t.cells m []) (i * w) (i * w + w)
+
+    part_len : length part ≡ w
+    part_len = length-take-le (i * w + w - i * w) (drop (i * w) (get_or t.cells m [])) (let l = length-drop (i * w) (get_or t.cells m []) in omega (arith, l, le)) ∙ omega arith
+
+    len : length (map tag_of part) ≡ w
+    len = length-map part tag_of ∙ part_len
+
+    at : (k : ℕ) (d : Tag) → k < w → get_or (map tag_of part) k d ≡ get_or (row_at t m i) k d
+    at k d lt = get_or-map tag_of part k 0 d (omega (arith, lt, part_len))
+        ∙ ap tag_of (get_or-take (i * w + w - i * w) (drop (i * w) (get_or t.cells m [])) k 0 (omega (arith, lt)) ∙ get_or-drop (i * w) (get_or t.cells m []) k 0 ∙ ap (λ n. get_or (get_or t.cells m []) (i * n + k) 0) is)
+        ∙ sym (get_or-map-range_with_len (λ r. tag_of (cell_at t m (i * width_at t m + r))) 0 (width_at t m) k k d (rw (← is) lt) (omega arith))
+
 -- ---- a row of the vectors that hold a table
-abbrev items_of : Vec ℕ Global → List ℕ
+abbrev pub items_of : Vec ℕ Global → List ℕ
 items_of v = v.items
 
 pub row_items : (rows : List (Vec ℕ Global)) (m : ℕ) (v : Vec ℕ Global) → v ≡ get_or rows m v → m < length (map items_of rows) → get_or (map items_of rows) m [] ≡ v.items
