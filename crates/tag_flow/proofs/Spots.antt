@@ -29,12 +29,6 @@ pub cells_there : (k : KnownParts) (s : StateParts) (spot : Spot) → IsState k 
 cells_there k s spot state is =
     state.rows spot.method.0 ∙ ap (λ (b : Bool). if b then code_len k.app spot.method.0 * row_width k.app spot.method.0 else 0) is.reached ∙ ap (λ w. code_len k.app spot.method.0 * w) (sym is.width)
 
-pub not_live : (k : KnownParts) (s : StateParts) (spot : Spot) (n : ℕ) → IsState k s → IsSpot k spot → spot.width ≤ n → ((r : ℕ) → r < n → tag_in (row_of s spot) r ≡ Bot) → IsLive (row_of s spot) → ⊥
-not_live k s spot n state is past none live = live.is (⊎_elim
-    (λ lt. none live.register lt)
-    (λ le. tag_past s.table spot.method.0 spot.index live.register (let w = table_width k s spot.method.0 state in let v = is.width in omega (arith, le, past, w, v)))
-    (cases_lt live.register n))
-
 -- the place of a cell, and its tag
 pub place_within : (k : KnownParts) (s : StateParts) (spot : Spot) (r : ℕ) → IsState k s → IsSpot k spot → r < spot.width → spot.index * spot.width + r < cells_len s.table spot.method.0
 place_within k s spot r state is lt =

@@ -52,7 +52,7 @@ fn enter_cell(
     known.told();
     let method = known.method(to.method);
     let tag = called_tag(
-        &state.row(from),
+        &state.row(known, from),
         handing.by,
         &handing.args,
         method,
@@ -110,7 +110,7 @@ fn come_back_to(known: &Known, state: &mut State, from: Spot, to: u32, callee: M
     ensures { Turn known.now (AnswerAt known.now from.method.0 to callee) state.old state.new result }
 {
     known.told();
-    let to = known.spot(from.method, to);
+    let to = known.beside(from, to);
     let tag = state.answer(known, callee);
     let changed = state.join(known, to, to.width - 1, tag);
     state.note(to, changed);
@@ -218,6 +218,6 @@ pub(crate) fn give_back(known: &Known, state: &mut State, from: Spot, act: Act) 
     let Some(returned) = returned_of(&act) else {
         return false;
     };
-    let tag = answered(&state.row(from), returned);
+    let tag = answered(&state.row(known, from), returned);
     state.join_answer(known, from.method, tag)
 }

@@ -181,6 +181,22 @@ impl<'a> Known<'a> {
         }
     }
 
+    /// Another instruction of the same method.
+    pub fn beside(&self, spot: Spot, index: u32) -> Spot
+        requires spot { IsSpot self.now spot }
+        requires index { index < code_len self.now.app spot.method.0 }
+        ensures spot { IsSpot self.now result }
+        ensures method { result.method ≡ spot.method }
+        ensures index { result.index ≡ index }
+    {
+        let start = index as usize * spot.width;
+        Spot {
+            index,
+            start,
+            ..spot
+        }
+    }
+
     pub fn method_count(&self) -> u32
         ensures { result ≡ length self.now.app.methods }
     {

@@ -25,7 +25,7 @@ fn pass_tag(known: &Known, state: &mut State, step: &Step, register: usize) -> b
     ensures { Turn known.now (CellUnder known.now step.now.from.method.0 step.now.to.index (row_after step.now.from.method.0 step.now.from.index step.now.change) register) state.old state.new result }
 {
     known.told();
-    let tag = change_tag(&state.row(step.from), &step.change, register);
+    let tag = change_tag(&state.row(known, step.from), &step.change, register);
     state.join(known, step.to, register, tag)
 }
 
@@ -90,7 +90,7 @@ fn pass_to(known: &Known, state: &mut State, from: Spot, change: Change, to: u32
     ensures { Turn known.now (RowPassed known.now from.method.0 to (row_after from.method.0 from.index change)) state.old state.new result }
 {
     known.told();
-    let to = known.spot(from.method, to);
+    let to = known.beside(from, to);
     let kept = kept_by(&change, from.width);
     let step = Step {
         from,

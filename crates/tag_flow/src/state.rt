@@ -1,6 +1,6 @@
 //! The table while it is made, and what the returns of each method gave so far.
-ghost use Rattle.std.specs.Prelude.{◌≡◌, ◌<◌, ◌≤◌, ◌+◌, ◌*◌, ◌^◌, ◌↔◌, true, IsTrue, length};
-ghost use Rattle.act_model.specs.Changes.{tag_in};
+ghost use Rattle.std.specs.Prelude.{◌≡◌, ◌<◌, ◌≤◌, ◌+◌, ◌*◌, ◌^◌, ◌↔◌, true, IsTrue, length, map};
+ghost use Rattle.app_model.specs.TagTable.{tag_of};
 ghost use Rattle.flow_model.specs.TagFlow.{IsLive};
 ghost use Rattle.tag_rows.specs.Cells.{IsTagOf, Joins};
 ghost use Rattle.tag_rows.specs.Runs.{Runs};
@@ -10,7 +10,6 @@ ghost use Rattle.tag_flow.specs.Turns.{IsStep, pair_of};
 use crate::agenda::{Agenda, Place};
 use crate::known::{Known, Spot};
 use crate::passing::Step;
-use act_model::Row;
 use app_model::{Tag, TagTable};
 use ns_base::MethodNo;
 use std::marker::Model;
@@ -62,16 +61,13 @@ impl State {
     }
 
     /// The tags before an instruction.
-    pub fn row(&self, spot: Spot) -> RowAt<'_>
-        ensures table { result.rows.now ≡ self.now.table }
-        ensures method { result.method ≡ spot.method }
-        ensures index { result.index ≡ spot.index }
+    pub fn row(&self, known: &Known, spot: Spot) -> RowAt<'_>
+        requires state { IsState known.now self.now }
+        requires spot { IsSpot known.now spot }
+        ensures { map tag_of result.cells.now ≡ row_of self.now spot }
     {
-        RowAt {
-            rows: &self.rows,
-            method: spot.method,
-            index: spot.index,
-        }
+        known.told();
+        self.rows.row(spot.method, spot.start, spot.width)
     }
 
     /// Whether something flows from there.
@@ -80,13 +76,7 @@ impl State {
         requires spot { IsSpot known.now spot }
         ensures { IsTrue result ↔ IsLive (row_of self.now spot) }
     {
-        let row = self.row(spot);
-        for register in 0..spot.width {
-            if row.tag(register) != Tag::Bot {
-                return true;
-            }
-        }
-        false
+        self.row(known, spot).is_live()
     }
 
     /// Joins a tag into the cell of a register before an instruction.

@@ -14,8 +14,8 @@ use Rattle.ns_base.specs.declared.rows.LockNo.{LockNo}
 use Rattle.tag_rows.specs.Changes.{is_plain}
 use Rattle.tag_rows.proofs.Monotone.{map_tag}
 
-pub put_kept : {A : Type 0} (wide : Bool) (row : List A) (to r : ℕ) (a b d : A) → r ≢ to → r ≢ to + 1 → get_or (put wide row to a b) r d ≡ get_or row r d
-put_kept true row to r a b d ne next = get_or-set_other (set row to a) (to + 1) r b d next ∙ get_or-set_other row to r a d ne
+pub put_kept : {A : Type 0} (wide : Bool) (row : List A) (to r : ℕ) (a b d : A) → r ≢ to → (wide ≡ true → r ≢ to + 1) → get_or (put wide row to a b) r d ≡ get_or row r d
+put_kept true row to r a b d ne next = get_or-set_other (set row to a) (to + 1) r b d (next refl) ∙ get_or-set_other row to r a d ne
 put_kept false row to r a b d ne next = get_or-set_other row to r a d ne
 
 -- a store to a lock field, but in the register that is stored

@@ -1,5 +1,10 @@
 -- Cells whose tags name nothing, and tags that are copied.
-use Rattle.std.proofs.Common.{◌≡◌, ◌≢◌, ℕ, zero, suc, ◌<◌, true, refl, sym, ap, ◌∙◌, arith}
+use Rattle.std.proofs.Common.{◌≡◌, ◌≢◌, ℕ, zero, suc, ◌<◌, List, length, map, get_or, true, refl, sym, ap, ◌∙◌, ⊎_elim, arith}
+use Rattle.std.proofs.lemmas.Bool.{cases_lt}
+use Rattle.std.proofs.lemmas.List.{get_or-map, get_or_past, length-map}
+use Rattle.flow_model.specs.TagFlow.{IsLive}
+use Rattle.std.proofs.lemmas.Grind.{common_steps}
+use Rattle.std.proofs.lemmas.Bool.Decides.{nat_tests}
 use Rattle.app_model.specs.TagTable.{cell_count, cell_of, tag_of}
 use Rattle.app_model.specs.declared.tag.Tag.{Tag}
 use Rattle.app_model.specs.declared.tag.Tag.TheVariants.{Bot}
@@ -30,3 +35,18 @@ bot_cell = refl
 -- cells that differ have tags that differ
 pub tags_differ : (a b : ℕ) → a < cell_count → b < cell_count → a ≢ b → tag_of a ≢ tag_of b
 tags_differ a b low high differ same = differ (sym (cell_again a low) ∙ ap cell_of same ∙ cell_again b high)
+
+-- another cell has another tag
+pub not_bot : (cell : ℕ) → cell ≢ 0 → tag_of cell ≢ Bot
+unfolding tag_of
+not_bot cell some bot = grind (arith, common_steps, nat_tests)
+
+-- a row is live where some cell is not that of Bot
+pub live_at : (cells : List ℕ) (r : ℕ) → r < length cells → get_or cells r 0 ≢ 0 → IsLive (map tag_of cells)
+live_at cells r lt some = record { register = r; is = λ bot. not_bot (get_or cells r 0) some (sym (get_or-map tag_of cells r 0 Bot lt) ∙ bot) }
+
+pub none_live : (cells : List ℕ) → ((r : ℕ) → r < length cells → get_or cells r 0 ≡ 0) → IsLive (map tag_of cells) → ⊥
+none_live cells none live = ⊎_elim
+    (λ lt. live.is (get_or-map tag_of cells live.register 0 Bot lt ∙ ap tag_of (none live.register lt) ∙ bot_cell))
+    (λ past. live.is (get_or_past (map tag_of cells) live.register Bot (omega (arith, past, length-map cells tag_of))))
+    (cases_lt live.register (length cells))

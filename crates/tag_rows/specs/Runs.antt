@@ -1,5 +1,5 @@
 -- Cells of one row of a method that are joined into those of another one, one after the other.
-use Rattle.std.specs.Prelude.{ℕ, ◌≡◌, ◌≢◌, ◌<◌, ◌+◌, ◌||◌, Bool, true, false, List, slice_index, slice_set}
+use Rattle.std.specs.Prelude.{ℕ, ◌≡◌, ◌≢◌, ◌<◌, ◌+◌, ◌||◌, ◌≤◌, Bool, true, false, List, slice_index, slice_set}
 use Rattle.std.specs.List.{All}
 use Rattle.app_model.specs.TagTable.{HasCell, TagParts, cell_count, cell_of, tag_of}
 use Rattle.app_model.specs.declared.tag.Tag.{Tag}
@@ -25,6 +25,14 @@ pub record IsKept (kept : Kept) (r : ℕ) (tag : Tag) : Type 0 where
   pub first : r ≢ kept.first
   pub second : r ≢ kept.second
   pub plain : kept.plain ≡ true → is_plain tag ≡ true
+
+-- a change touches these registers by their tags alone
+abbrev pub IsClear : Kept → (start end : ℕ) → Type 0
+IsClear kept start end = (r : ℕ) → start ≤ r → r < end → (r ≢ kept.first) × (r ≢ kept.second)
+
+-- their tags flow as they are, and have done so
+abbrev pub AreJoined : Pair → (start end : ℕ) → List ℕ → Type 0
+AreJoined pair start end cells = (r : ℕ) → start ≤ r → r < end → IsKept pair.kept r (tag_of_place cells (pair.from + r)) × (slice_index cells (pair.from + r) ≡ slice_index cells (pair.to + r))
 
 -- registers of a row whose tags flow as they are, joined into another row: of a method's cells, and of a table
 pub data RunIn (pair : Pair) (start : ℕ) (old : List ℕ) : (end : ℕ) → List ℕ → Bool → Type 0 where

@@ -1,11 +1,11 @@
 //! What flows from an instruction, as a change of the row before it.
-ghost use Rattle.std.specs.Prelude.{ℕ, ◌≡◌, ◌<◌, ◌+◌, length, true, false};
-ghost use Rattle.act_model.specs.Changes.{call_change, tag_in};
+ghost use Rattle.std.specs.Prelude.{ℕ, ◌≡◌, ◌<◌, ◌+◌, ◌^◌, length, true, false};
+ghost use Rattle.act_model.specs.Changes.{call_change, is_pair, tag_in};
 ghost use Rattle.app_model.specs.declared.tag.Tag.{Tag as AnyTag};
 ghost use Rattle.tag_rows.specs.Changes.{Keeps, changed, is_plain};
 ghost use Rattle.tag_rows.specs.declared.change.Change.TheVariants as variants;
 
-use act_model::{Act, Row, tag_after, tag_called, tag_thrown};
+use act_model::{Act, Row, Written, tag_after, tag_called, tag_thrown};
 use app_model::{LockUse, Tag};
 
 /// What flows to a successor or a handler.
@@ -59,40 +59,60 @@ pub fn kept_by(change: &Change, width: usize) -> Kept
     ensures { Keeps change.now width result }
 {
     match *change {
-        Change::After { act, .. } => kept_after(&act, width - 1),
-        Change::Thrown { act } => kept_thrown(&act, width - 1),
+        Change::After { act, .. } => kept_after(&act, width),
+        Change::Thrown { act } => kept_thrown(&act, width),
         Change::Past { .. } | Change::Out { .. } => plain_but(width - 1),
     }
 }
 
-fn kept_after(act: &Act, last: usize) -> Kept
-    ensures { (site : ℕ) → Keeps (variants.After site act.now) (last + 1) result }
+fn kept_after(act: &Act, width: usize) -> Kept
+    requires { 0 < width }
+    ensures { (site : ℕ) → Keeps (variants.After site act.now) width result }
 {
     match *act {
-        Act::Copy { to, .. } | Act::Write { to, .. } => Kept {
-            first: to as usize,
-            second: to as usize + 1,
-            plain: false,
-        },
+        Act::Copy { to, wide, .. } => kept_put(to as usize, wide),
+        Act::Write { to, written, .. } => kept_put(to as usize, is_pair(written)),
         Act::TakeResult { to } | Act::ReadSlot { to, .. } => all_but(to as usize),
         Act::WriteSlot { from, .. } => plain_but(from as usize),
-        Act::Call { usage, .. } => kept_call(usage, last),
+        Act::Call { usage, .. } => kept_call(usage, width - 1),
+        Act::Fill { .. } => all_but(width - 1),
         Act::Go
         | Act::Test { .. }
-        | Act::Fill { .. }
         | Act::Give { .. }
         | Act::Check { .. }
         | Act::Throw { .. }
-        | Act::Return { .. } => all_but(last),
+        | Act::Return { .. } => all_but(width),
     }
 }
 
-fn kept_thrown(act: &Act, last: usize) -> Kept
-    ensures { Keeps (variants.Thrown act.now) (last + 1) result }
+fn kept_thrown(act: &Act, width: usize) -> Kept
+    requires { 0 < width }
+    ensures { Keeps (variants.Thrown act.now) width result }
 {
     match *act {
-        Act::Call { usage, .. } => kept_call(usage, last),
-        _ => all_but(last),
+        Act::Call { usage, .. } => kept_call(usage, width - 1),
+        _ => all_but(width),
+    }
+}
+
+fn is_pair(written: Written) -> bool
+    ensures { result ≡ is_pair written }
+{
+    matches!(written, Written::Pair)
+}
+
+// One register is written, or it and the next one.
+fn kept_put(to: usize, wide: bool) -> Kept
+    requires { to < 2 ^ 32 }
+    ensures first { result.first ≡ to }
+    ensures second { wide ≡ true → result.second ≡ to + 1 }
+    ensures plain { result.plain ≡ false }
+{
+    let second = if wide { to + 1 } else { to };
+    Kept {
+        first: to,
+        second,
+        plain: false,
     }
 }
 

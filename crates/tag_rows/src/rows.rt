@@ -1,11 +1,12 @@
 //! The cells of methods while a table is made, row by row.
-ghost use Rattle.std.specs.Prelude.{◌≡◌, ◌<◌, ◌+◌, ◌≤◌, ◌^◌, [], length, map, slice_index_or, true};
-ghost use Rattle.app_model.specs.TagTable.{HasCell, IsTagTable, cell_at, cell_count, tag_of, width_at, with_cell};
+ghost use Rattle.std.specs.Prelude.{ℕ, ◌≡◌, ◌<◌, ◌+◌, ◌*◌, ◌≤◌, ◌^◌, ◌↔◌, [], IsTrue, length, map, slice_index_or, true};
+ghost use Rattle.flow_model.specs.TagFlow.{IsLive};
+ghost use Rattle.app_model.specs.TagTable.{HasCell, IsTagTable, cell_at, cell_count, row_at, tag_of, width_at, with_cell};
 ghost use Rattle.tag_rows.specs.Cells.{Joins, cells_len, tag_there};
 ghost use Rattle.tag_rows.specs.Runs.{Runs};
 
-use crate::runs::{Pair, Run, join_run};
-use act_model::{Row, join};
+use crate::runs::{Pair, Run, join_cell, join_run};
+use act_model::Row;
 use app_model::{Tag, TagTable};
 use ns_base::MethodNo;
 use std::marker::Model;
@@ -80,13 +81,15 @@ impl Rows {
         Tag::of_cell(self.cell(method, place))
     }
 
-    #[tactic(auto, unfolding(app_model::specs::TagTable::with_cell))]
-    fn put(&mut self, method: MethodNo, place: usize, cell: u16)
-        requires place { place < cells_len self.old method.0 }
-        requires fits { cell < cell_count }
-        ensures { self.new ≡ with_cell self.old method.0 place cell }
+    /// The row of an instruction, by the place of its first cell and how many cells it has.
+    pub fn row(&self, method: MethodNo, start: usize, width: usize) -> RowAt<'_>
+        requires within { start + width ≤ cells_len self.now method.0 }
+        requires some { 0 < width }
+        ensures { (index : ℕ) → width ≡ width_at self.now method.0 → start ≡ index * width → map tag_of result.cells.now ≡ row_at self.now method.0 index }
     {
-        self.cells[method.0 as usize][place] = cell;
+        RowAt {
+            cells: &self.cells[method.0 as usize][start..start + width],
+        }
     }
 
     /// Joins a tag into a cell, and tells whether the cell changed.
@@ -95,13 +98,11 @@ impl Rows {
         requires tag { HasCell tag }
         ensures { Joins self.old method.0 place tag self.new result }
     {
-        let before = self.tag(method, place);
-        let joined = join(before, tag);
-        if joined == before {
-            return false;
-        }
-        self.put(method, place, joined.cell());
-        true
+        join_cell(
+            self.cells[method.0 as usize].as_mut_slice(),
+            place,
+            tag.cell(),
+        )
     }
 
     /// Joins the tags of registers from a first one on, up to one that does not flow as it is.
@@ -118,32 +119,41 @@ impl Rows {
     }
 }
 
-/// The tags before an instruction.
+/// The tags before an instruction, by its cells.
 #[derive(Clone, Copy)]
 pub struct RowAt<'a> {
-    pub rows: &'a Rows,
-    pub method: MethodNo,
-    pub index: u32,
+    pub cells: &'a [u16],
 }
 
 impl Row for RowAt<'_> {
-    ghost use Rattle.app_model.specs.TagTable as table;
+    ghost use Rattle.app_model.specs.TagTable.{tag_of};
+    ghost use Rattle.std.specs.Prelude.{map};
 
-    ghost tags = { λ at. table.row_at at.rows.now at.method.0 at.index };
+    ghost tags = { λ at. map tag_of at.cells.now };
 
-    #[tactic(auto, using(app_model::proofs::Cells::tag_past, app_model::proofs::Cells::tag_within))]
     fn tag(&self, register: usize) -> Tag {
-        let width = self.rows.width(self.method);
-        if register < width {
-            let place = self.index as usize * width + register;
-            self.rows.tag(self.method, place)
-        } else {
-            Tag::Bot
+        match self.cells.get(register) {
+            Some(cell) => Tag::of_cell(*cell),
+            None => Tag::Bot,
         }
     }
 
-    #[tactic(auto, using(app_model::proofs::Cells::row_at_width))]
     fn cells(&self) -> usize {
-        self.rows.width(self.method)
+        self.cells.len()
+    }
+}
+
+impl RowAt<'_> {
+    /// Whether something flows from there.
+    pub fn is_live(&self) -> bool
+        ensures { IsTrue result ↔ IsLive (map tag_of self.now.cells.now) }
+    {
+        let cells = self.cells;
+        for register in 0..cells.len() {
+            if cells[register] != 0 {
+                return true;
+            }
+        }
+        false
     }
 }

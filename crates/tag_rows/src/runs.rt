@@ -1,8 +1,8 @@
 //! Cells of one row of a method that are joined into those of another one.
-ghost use Rattle.std.specs.Prelude.{◌≡◌, ◌<◌, ◌≤◌, ◌+◌, length, true};
+ghost use Rattle.std.specs.Prelude.{ℕ, ◌≡◌, ◌<◌, ◌≤◌, ◌+◌, length, slice_index, true};
 ghost use Rattle.app_model.specs.TagTable.{cell_count, tag_of};
 ghost use Rattle.tag_rows.specs.Changes.{is_plain};
-ghost use Rattle.tag_rows.specs.Runs.{AreCells, IsKept, JoinsIn, RunIn};
+ghost use Rattle.tag_rows.specs.Runs.{AreCells, AreJoined, IsClear, JoinsIn, RunIn};
 
 use crate::change::Kept;
 use act_model::join;
@@ -35,13 +35,10 @@ fn is_plain_cell(cell: u16) -> bool
     cell < NAMED
 }
 
-// Whether a register's tag flows as it is.
-fn is_kept(kept: Kept, register: usize, cell: u16) -> bool
-    ensures { result ≡ true → IsKept kept register (tag_of cell) }
+// Whether a register that is none of the two flows as it is.
+fn is_kept(kept: Kept, cell: u16) -> bool
+    ensures { result ≡ true → kept.plain ≡ true → is_plain (tag_of cell) ≡ true }
 {
-    if register == kept.first || register == kept.second {
-        return false;
-    }
     !kept.plain || is_plain_cell(cell)
 }
 
@@ -63,7 +60,8 @@ fn join_tags(cells: &mut [u16], place: usize, cell: u16) -> bool
     true
 }
 
-fn join_cell(cells: &mut [u16], place: usize, cell: u16) -> bool
+/// Joins the tag of a cell into another cell.
+pub(crate) fn join_cell(cells: &mut [u16], place: usize, cell: u16) -> bool
     requires place { place < length cells.old }
     requires fits { cell < cell_count }
     requires cells { AreCells cells.old }
@@ -82,6 +80,89 @@ fn join_cell(cells: &mut [u16], place: usize, cell: u16) -> bool
     join_tags(cells, place, cell)
 }
 
+// The first register from one on that is not kept, whatever its tag is.
+fn next_odd(kept: Kept, start: usize, width: usize) -> usize
+    requires { start ≤ width }
+    ensures end { result ≤ width }
+    ensures later { start ≤ result }
+    ensures clear { IsClear kept start result }
+{
+    let mut end = width;
+    if start <= kept.first && kept.first < end {
+        end = kept.first;
+    }
+    if start <= kept.second && kept.second < end {
+        end = kept.second;
+    }
+    end
+}
+
+// Whether no tag of registers in a range of a row names a lock field or a site.
+fn are_plain(cells: &[u16], from: usize, start: usize, end: usize) -> bool
+    requires { from + end ≤ length cells.now }
+    ensures { result ≡ true → (r : ℕ) → start ≤ r → r < end → is_plain (tag_of (slice_index cells.now (from + r))) ≡ true }
+{
+    let mut plain = true;
+    for register in start..end {
+        plain &= is_plain_cell(cells[from + register]);
+    }
+    plain
+}
+
+// Whether two rows have the same cells in a range of registers.
+fn are_equal(cells: &[u16], pair: &Pair, start: usize, end: usize) -> bool
+    requires from { pair.now.from + end ≤ length cells.now }
+    requires to { pair.now.to + end ≤ length cells.now }
+    requires start { start ≤ end }
+    ensures { result ≡ true → (r : ℕ) → start ≤ r → r < end → slice_index cells.now (pair.now.from + r) ≡ slice_index cells.now (pair.now.to + r) }
+{
+    let Pair { from, to, .. } = *pair;
+    cells[from + start..from + end] == cells[to + start..to + end]
+}
+
+// Whether registers in a range flow as they are, and have done so.
+fn are_joined(cells: &[u16], pair: &Pair, start: usize, end: usize) -> bool
+    requires from { pair.now.from + end ≤ length cells.now }
+    requires to { pair.now.to + end ≤ length cells.now }
+    requires start { start ≤ end }
+    requires clear { IsClear pair.now.kept start end }
+    ensures { result ≡ true → AreJoined pair.now start end cells.now }
+{
+    if !are_equal(cells, pair, start, end) {
+        return false;
+    }
+    !pair.kept.plain || are_plain(cells, pair.from, start, end)
+}
+
+// The same of registers that the change touches by their tags alone, one by one.
+fn join_cells(cells: &mut [u16], pair: &Pair, start: usize, end: usize) -> Run
+    requires from { pair.now.from + pair.now.width ≤ length cells.old }
+    requires to { pair.now.to + pair.now.width ≤ length cells.old }
+    requires start { start ≤ end }
+    requires end { end ≤ pair.now.width }
+    requires clear { IsClear pair.now.kept start end }
+    requires cells { AreCells cells.old }
+    ensures run { RunIn pair.now start cells.old result.end cells.new result.changed }
+    ensures end { result.end ≤ pair.now.width }
+    ensures later { start ≤ result.end }
+    ensures cells { AreCells cells.new }
+    ensures len { length cells.new ≡ length cells.old }
+{
+    let Pair { from, to, kept, .. } = *pair;
+    let mut changed = false;
+    for register in start..end {
+        let cell = cells[from + register];
+        if !is_kept(kept, cell) {
+            return Run {
+                end: register,
+                changed,
+            };
+        }
+        changed |= join_cell(cells, to + register, cell);
+    }
+    Run { end, changed }
+}
+
 /// Joins the cells of registers from a first one on, up to one that does not flow as it is.
 pub(crate) fn join_run(cells: &mut [u16], pair: &Pair, start: usize) -> Run
     requires from { pair.now.from + pair.now.width ≤ length cells.old }
@@ -94,25 +175,12 @@ pub(crate) fn join_run(cells: &mut [u16], pair: &Pair, start: usize) -> Run
     ensures cells { AreCells cells.new }
     ensures len { length cells.new ≡ length cells.old }
 {
-    let Pair {
-        from,
-        to,
-        width,
-        kept,
-    } = *pair;
-    let mut changed = false;
-    for register in start..width {
-        let cell = cells[from + register];
-        if !is_kept(kept, register, cell) {
-            return Run {
-                end: register,
-                changed,
-            };
-        }
-        changed |= join_cell(cells, to + register, cell);
+    let end = next_odd(pair.kept, start, pair.width);
+    if are_joined(cells, pair, start, end) {
+        return Run {
+            end,
+            changed: false,
+        };
     }
-    Run {
-        end: width,
-        changed,
-    }
+    join_cells(cells, pair, start, end)
 }

@@ -9,9 +9,9 @@ called_tag-tag-requires-clause-register c =
 
 pub join-requires-clause-tag : goal.join-requires-clause-tag
 join-requires-clause-tag c =
-    entering_fits _ _ c.requires.source.state _ _ _ _ _ _ _ (entering_is _ _ c.requires.source.state _ _ _ _ _ _ _ _ c.method-method.ensures.is (rw (c.row.ensures.table, c.row.ensures.method, c.row.ensures.index) at c.called_tag-tag.ensures))
+    entering_fits _ _ c.requires.source.state _ _ _ _ _ _ _ (entering_is _ _ c.requires.source.state _ _ _ _ _ _ _ _ c.method-method.ensures.is (rw c.row.ensures at c.called_tag-tag.ensures))
 
 pub returns : goal.returns
 returns c =
-    let is = entering_is _ _ c.requires.source.state _ _ _ _ _ _ _ _ c.method-method.ensures.is (rw (c.row.ensures.table, c.row.ensures.method, c.row.ensures.index) at c.called_tag-tag.ensures) in
+    let is = entering_is _ _ c.requires.source.state _ _ _ _ _ _ _ _ c.method-method.ensures.is (rw c.row.ensures at c.called_tag-tag.ensures) in
     enter_turn _ _ _ _ _ c.args.handing _ _ _ c.requires.source c.requires.enters c.requires.register is (entering_fits _ _ c.requires.source.state _ _ _ _ _ _ _ is) c.join.ensures.joins c.join.ensures.answers

@@ -15,8 +15,8 @@ join_answer-requires-clause-method c =
 
 pub join_answer-requires-clause-tag : goal.join_answer-requires-clause-tag
 join_answer-requires-clause-tag c =
-    rw c.answered-tag.ensures (answered_fits _ c.in-Some.returned _ (rw (c.row.ensures.table, c.row.ensures.method, c.row.ensures.index) (rows_fit _ _ c.args.from.method.0 c.args.from.index c.requires.source.state.tags)))
+    rw c.answered-tag.ensures (answered_fits _ c.in-Some.returned _ (rw c.row.ensures (rows_fit _ _ c.args.from.method.0 c.args.from.index c.requires.source.state.tags)))
 
 pub returns : goal.returns
 returns c =
-    give_turn _ _ _ _ c.args.from.index _ c.in-Some.returned _ _ c.requires.act (answer_return c.args.act c.in-Some.returned c.in-Some.ensures) c.requires.source.live (rw (c.row.ensures.table, c.row.ensures.method, c.row.ensures.index) at c.answered-tag.ensures) (rw c.answered-tag.ensures (answered_fits _ c.in-Some.returned _ (rw (c.row.ensures.table, c.row.ensures.method, c.row.ensures.index) (rows_fit _ _ c.args.from.method.0 c.args.from.index c.requires.source.state.tags)))) c.join_answer.ensures.joins c.join_answer.ensures.table
+    give_turn _ _ _ _ c.args.from.index _ c.in-Some.returned _ _ c.requires.act (answer_return c.args.act c.in-Some.returned c.in-Some.ensures) c.requires.source.live (rw c.row.ensures at c.answered-tag.ensures) (rw c.answered-tag.ensures (answered_fits _ c.in-Some.returned _ (rw c.row.ensures (rows_fit _ _ c.args.from.method.0 c.args.from.index c.requires.source.state.tags)))) c.join_answer.ensures.joins c.join_answer.ensures.table

@@ -1,6 +1,6 @@
 use Rattle.tag_flow.proofs.Loops.{leads_below}
 use Rattle.tag_flow.proofs.passing.pass_to.Goals as goal
 
-pub spot-to-requires-clause-index : goal.spot-to-requires-clause-index
-spot-to-requires-clause-index c =
+pub beside-to-requires-clause-index : goal.beside-to-requires-clause-index
+beside-to-requires-clause-index c =
     leads_below _ _ _ _ _ c.told.ensures.app c.requires.source.spot.index c.requires.leads

@@ -1,4 +1,4 @@
-use Rattle.std.proofs.Common.{◌∙◌, sym}
+use Rattle.std.proofs.Common.{◌∙◌, ◌-◌, arith, sym}
 use Rattle.act_model.specs.Changes.{tag_in}
 use Rattle.tag_rows.proofs.Keeping.{call_kept, store_kept}
 use Rattle.tag_rows.proofs.change.kept_after.Goals as goal
@@ -9,4 +9,4 @@ returns-in-WriteSlot c =
 
 pub returns-in-Call : goal.returns-in-Call
 returns-in-Call c =
-    λ site row r len first second plain. rw c.in-Call.is (call_kept site c.in-Call.by _ c.in-Call.args c.in-Call.gives row r c.args.last c.kept_call.result.plain c.kept_call.ensures.tags len (λ e. first (e ∙ sym c.kept_call.ensures.cell)) plain)
+    λ site row r len first second plain. rw c.in-Call.is (call_kept site c.in-Call.by _ c.in-Call.args c.in-Call.gives row r (c.args.width - 1) c.kept_call.result.plain c.kept_call.ensures.tags (omega (arith, len, c.requires)) (λ e. first (e ∙ sym c.kept_call.ensures.cell)) plain)

@@ -1,15 +1,7 @@
-use Rattle.std.proofs.Common.{◌∙◌, refl}
-use Rattle.tag_rows.specs.Runs.{no_cell, next_cell}
+use Rattle.std.proofs.Common.{◌-◌, arith}
+use Rattle.tag_rows.proofs.Running.{joined_run}
 use Rattle.tag_rows.proofs.runs.join_run.Goals as goal
 
-pub loop-register-init : goal.loop-register-init
-loop-register-init c =
-    record { run = no_cell; cells = c.requires.cells; len = refl }
-
-pub loop-register-preserved : goal.loop-register-preserved
-loop-register-preserved c =
-    record {
-      run = next_cell _ _ _ _ _ c.loop-register.invariant.run (c.is_kept.ensures c.if-not-is_kept.false) c.join_cell-changed.ensures.joins;
-      cells = c.join_cell-changed.ensures.cells;
-      len = c.join_cell-changed.ensures.len ∙ c.loop-register.invariant.len;
-    }
+pub returns-then-are_joined-clause-run : goal.returns-then-are_joined-clause-run
+returns-then-are_joined-clause-run c =
+    joined_run c.args.pair.now c.args.start (c.next_odd-end.result - c.args.start) c.next_odd-end.result _ (omega (arith, c.next_odd-end.ensures.later)) (c.are_joined.ensures c.if-are_joined.true)

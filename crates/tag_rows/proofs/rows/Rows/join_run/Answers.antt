@@ -25,4 +25,4 @@ returns-clause-runs c =
     let there : m < length t.cells = row_in t m 0 some in
     let whole : get_or t.cells m [] ≡ c.as_mut_slice.result.now =
     rw (← c.self.view_is) (row_items c.self.inside.cells.items m c.index_mut.result.now c.index_mut.ensures.value (rw (← c.self.view_is) at there)) ∙ sym c.as_mut_slice.ensures.value in
-    runs_in t m c.args.pair.now c.args.start c.join_run.result.end c.join_run.new.cells c.join_run.result.changed there c.join_run.ensures.end c.requires.to (rw whole c.join_run.ensures.run))
+    runs_in t m there c.args.pair.now c.args.start c.join_run.result.end c.join_run.new.cells c.join_run.result.changed c.join_run.ensures.end c.requires.to (rw whole c.join_run.ensures.run))

@@ -1,6 +1,6 @@
 use Rattle.std.proofs.Common.{◌≡◌, length}
 use Rattle.tag_rows.specs.Runs.{AreCells, RunIn}
-use Rattle.tag_rows.proofs.runs.join_run.Given as goal
+use Rattle.tag_rows.proofs.runs.join_cells.Given as goal
 
 abbrev pub invariant-loop-register : goal.invariant-loop-register
 invariant-loop-register l = record {
