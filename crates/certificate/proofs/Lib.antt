@@ -1,4 +1,10 @@
 pub mod LastPart
+pub mod Ranges
+pub mod Bits
+pub mod BodyRows
+pub mod Rising
+pub mod ShownNames
+pub mod WholeParts
 pub mod Machine
 pub mod OneLine
 pub mod Accepted

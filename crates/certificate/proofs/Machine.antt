@@ -129,7 +129,7 @@ Shape places.Dex n t ls = InDex n t ls
 Shape (places.Lock rank) n t ls = InLock rank n t ls
 Shape places.End n t ls = (ls ≡ []) × (t ≡ nothing)
 
-rise_lower : {X : Type 0} (rank : X → ℕ) (low high : ℕ) (xs : List X) → low ≤ high → Rise rank high xs → Rise rank low xs
+pub rise_lower : {X : Type 0} (rank : X → ℕ) (low high : ℕ) (xs : List X) → low ≤ high → Rise rank high xs → Rise rank low xs
 rise_lower rank low high [] le h = tt
 rise_lower rank low high (x ∷ xs) le h = let first : high < rank x = h.0 in (omega arith, h.1)
 

@@ -2,3 +2,4 @@ pub mod Parts
 pub mod Texts
 pub mod Reading
 pub mod Wrong
+pub mod Solved

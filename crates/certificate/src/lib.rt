@@ -3,13 +3,16 @@
 //! - `parts` has what a certificate is.
 //! - `reading` has the certificate that a text spells, or the first wrong line.
 //! - `writing` has the text of a certificate.
+//! - `solved` has the part that the facts of a lock field give.
 #![tactic(auto)]
 
 mod parts;
 mod reading;
+mod solved;
 mod writing;
 
 pub use cert_line::{BodyRow, ViewRow};
 pub use parts::{CertFault, Certificate, LockPart};
 pub use reading::{one_certificate, read_certificate};
+pub use solved::lock_part;
 pub use writing::write_certificate;
