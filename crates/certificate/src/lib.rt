@@ -9,6 +9,8 @@
 mod parts;
 mod reading;
 mod solved;
+#[cfg(test)]
+mod tests;
 mod writing;
 
 pub use cert_line::{BodyRow, ViewRow};
