@@ -7,7 +7,6 @@ use Rattle.std.proofs.lemmas.Nat.Bits.{same_from_bits_below, bit_at-lt, bit_at_l
 use Rattle.std.proofs.Math.Nat.{two-pow-succ}
 use Rattle.app_model.specs.Facts.{Fact, At, Ret, Exc}
 use Rattle.app_model.specs.Masks.{in_mask}
-use Rattle.solution.specs.Facts.{Facts, holds}
 use Rattle.solution.specs.Words.{has, AreRows}
 use Rattle.solution.proofs.Bits.{mask_true, has_true, has_from, in_mask_is, none_in}
 use Rattle.solution.proofs.Ors.{or_bit, or_left, or_right}
@@ -96,8 +95,8 @@ row_some w e r same (s, h) =
 
 -- ---- facts of a method, gathered in one word
 
-abbrev Rows : Facts → (m n word : ℕ) → Type 0
-Rows t m n word = AreRows (BodyFact t m n) 8 word
+abbrev Rows : (Fact → Bool) → (m n word : ℕ) → Type 0
+Rows set m n word = AreRows (BodyFact set m n) 8 word
 
 has_left : (a b e s : ℕ) → has a e s ≡ true → has (bit_or a b) e s ≡ true
 has_left a b e s h = let p = has_true a e s h in has_from _ e s p.0 p.1 (or_left a b (8 * e + s) p.2)
@@ -110,8 +109,8 @@ has_either a b e s h =
     let p = has_true _ e s h in
     ⊎_elim (λ x. inl (has_from a e s p.0 p.1 x)) (λ x. inr (has_from b e s p.0 p.1 x)) (or_bit a b (8 * e + s) p.2)
 
-pub end_rows : (t : Facts) (m a b : ℕ) → ((e s : ℕ) → has a e s ≡ holds t (Ret m e s)) → ((e s : ℕ) → has b e s ≡ holds t (Exc m e s)) → Rows t m 0 (bit_or a b)
-end_rows t m a b ret exc = record {
+pub end_rows : (set : Fact → Bool) (m a b : ℕ) → ((e s : ℕ) → has a e s ≡ set (Ret m e s)) → ((e s : ℕ) → has b e s ≡ set (Exc m e s)) → Rows set m 0 (bit_or a b)
+end_rows set m a b ret exc = record {
   there = λ e s lt fact. elim fact [
     | inl r ↦ has_left a b e s (ret e s ∙ r)
     | inr (inl x) ↦ has_right a b e s (exc e s ∙ x)
@@ -120,8 +119,8 @@ end_rows t m a b ret exc = record {
   only = λ e s h. ⊎_elim (λ x. inl (sym (ret e s) ∙ x)) (λ x. inr (inl (sym (exc e s) ∙ x))) (has_either a b e s h);
 }
 
-pub more_rows : (t : Facts) (m n a b : ℕ) → Rows t m n a → ((e s : ℕ) → has b e s ≡ holds t (At m e n s)) → Rows t m (n + 1) (bit_or a b)
-more_rows t m n a b rows at = record {
+pub more_rows : (set : Fact → Bool) (m n a b : ℕ) → Rows set m n a → ((e s : ℕ) → has b e s ≡ set (At m e n s)) → Rows set m (n + 1) (bit_or a b)
+more_rows set m n a b rows at = record {
   there = λ e s lt fact. elim fact [
     | inl r ↦ has_left a b e s (rows.there e s lt (inl r))
     | inr (inl x) ↦ has_left a b e s (rows.there e s lt (inr (inl x)))

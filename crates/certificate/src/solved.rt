@@ -5,11 +5,11 @@ ghost use Rattle.app_model.specs.Shown.{lock_text, member_text};
 ghost use Rattle.app_model.specs.Sound.{IsSoundApp};
 ghost use Rattle.app_model.specs.Subject.{is_reached, slot_count};
 ghost use Rattle.app_model.specs.Words.{code_len};
-ghost use Rattle.solution.specs.Facts.{HasPlaces};
+ghost use Rattle.solution.specs.Facts.{HasPlaces, holds};
 ghost use Rattle.solution.specs.Table.{row_len};
 ghost use Rattle.solution.specs.Words.{AreRows};
 ghost use Rattle.cert_line.specs.Lines.{has_fact, is_shown};
-ghost use Rattle.certificate.specs.Solved.{BodyFact, HasRow, view_row, has_status, component_views, masks_of, body_row, code_bodies, method_bodies, numbers_below, part_of};
+ghost use Rattle.certificate.specs.Solved.{BodyFact, HasCode, HasRow, view_row, has_status, component_views, masks_of, body_row, code_bodies, method_bodies, numbers_below, part_of};
 ghost use Rattle.certificate.specs.Texts.{IsPart};
 
 use crate::parts::LockPart;
@@ -29,7 +29,7 @@ struct Code {
 fn view_of(solution: &Solution, component: ComponentNo, state: u8) -> ViewRow
     requires component { component.0 < row_len solution.now.ends 2 }
     requires state { state < 8 }
-    ensures { result ≡ view_row solution.now component.0 state }
+    ensures { result ≡ view_row (holds solution.now) component.0 state }
 {
     ViewRow {
         component: component.0,
@@ -54,7 +54,7 @@ fn put_views(
     component: ComponentNo,
 ) -> Result<(), AllocError>
     requires { component.0 < row_len solution.now.ends 2 }
-    ensures { OnOk result (rows.new.items ≡ rows.old.items ++ component_views solution.now component.0) }
+    ensures { OnOk result (rows.new.items ≡ rows.old.items ++ component_views (holds solution.now) component.0) }
 {
     for state in 0..8u8 {
         put_view(rows, view_of(solution, component, state))?;
@@ -64,7 +64,7 @@ fn put_views(
 
 fn views(alloc: Global, subject: &Subject, solution: &Solution) -> Result<Vec<ViewRow>, AllocError>
     requires { HasPlaces subject.now solution.now }
-    ensures { IfOk result (λ rows. rows.items ≡ flat_map (component_views solution.now) (numbers_below (length subject.now.list))) }
+    ensures { IfOk result (λ rows. rows.items ≡ flat_map (component_views (holds solution.now)) (numbers_below (length subject.now.list))) }
 {
     let mut rows = Vec::new(alloc);
     for component in 0..subject.list.rows.len() as u32 {
@@ -76,7 +76,7 @@ fn views(alloc: Global, subject: &Subject, solution: &Solution) -> Result<Vec<Vi
 fn masks(alloc: Global, solution: &Solution, code: Code, entry: u8) -> Result<Vec<u8>, AllocError>
     requires entry { entry < 8 }
     requires len { code.len ≤ row_len solution.now.code code.method.0 }
-    ensures { IfOk result (λ masks. masks.items ≡ masks_of solution.now code.method.0 code.len entry) }
+    ensures { IfOk result (λ masks. masks.items ≡ masks_of (holds solution.now) code.method.0 code.len entry) }
 {
     let mut masks = Vec::with_capacity(alloc, code.len as usize)?;
     for index in 0..code.len {
@@ -87,10 +87,8 @@ fn masks(alloc: Global, solution: &Solution, code: Code, entry: u8) -> Result<Ve
 
 fn body_of(alloc: Global, solution: &Solution, code: Code, entry: u8) -> Result<BodyRow, AllocError>
     requires entry { entry < 8 }
-    requires len { code.len ≤ row_len solution.now.code code.method.0 }
-    requires ret { code.method.0 < row_len solution.now.ends 0 }
-    requires exc { code.method.0 < row_len solution.now.ends 1 }
-    ensures { IfOk result (λ row. row ≡ body_row solution.now code.method.0 code.len entry) }
+    requires code { HasCode solution.now code.method.0 code.len }
+    ensures { IfOk result (λ row. row ≡ body_row (holds solution.now) code.method.0 code.len entry) }
 {
     Ok(BodyRow {
         method: code.method.0,
@@ -104,7 +102,7 @@ fn body_of(alloc: Global, solution: &Solution, code: Code, entry: u8) -> Result<
 fn end_facts(solution: &Solution, method: MethodNo) -> u64
     requires ret { method.0 < row_len solution.now.ends 0 }
     requires exc { method.0 < row_len solution.now.ends 1 }
-    ensures { AreRows (BodyFact solution.now method.0 0) 8 result }
+    ensures { AreRows (BodyFact (holds solution.now) method.0 0) 8 result }
 {
     solution.ret_word(method) | solution.exc_word(method)
 }
@@ -112,10 +110,8 @@ fn end_facts(solution: &Solution, method: MethodNo) -> u64
 // The entry statuses at which a method has facts, as the rows that are not empty: one look at each instruction tells
 // which rows are worth writing.
 fn facts_of(solution: &Solution, code: Code) -> u64
-    requires len { code.len ≤ row_len solution.now.code code.method.0 }
-    requires ret { code.method.0 < row_len solution.now.ends 0 }
-    requires exc { code.method.0 < row_len solution.now.ends 1 }
-    ensures { AreRows (BodyFact solution.now code.method.0 code.len) 8 result }
+    requires { HasCode solution.now code.method.0 code.len }
+    ensures { AreRows (BodyFact (holds solution.now) code.method.0 code.len) 8 result }
 {
     let mut facts = end_facts(solution, code.method);
     for index in 0..code.len {
@@ -140,11 +136,9 @@ fn put_body(
     facts: u64,
 ) -> Result<(), AllocError>
     requires entry { entry < 8 }
-    requires len { code.len ≤ row_len solution.now.code code.method.0 }
-    requires ret { code.method.0 < row_len solution.now.ends 0 }
-    requires exc { code.method.0 < row_len solution.now.ends 1 }
-    requires facts { AreRows (BodyFact solution.now code.method.0 code.len) 8 facts }
-    ensures { OnOk result (rows.new.items ≡ rows.old.items ++ filter has_fact (body_row solution.now code.method.0 code.len entry ∷ [])) }
+    requires code { HasCode solution.now code.method.0 code.len }
+    requires facts { AreRows (BodyFact (holds solution.now) code.method.0 code.len) 8 facts }
+    ensures { OnOk result (rows.new.items ≡ rows.old.items ++ filter has_fact (body_row (holds solution.now) code.method.0 code.len entry ∷ [])) }
 {
     if has_row(facts, entry) {
         rows.push(body_of(alloc, solution, code, entry)?)?;
@@ -159,10 +153,8 @@ fn put_bodies(
     solution: &Solution,
     code: Code,
 ) -> Result<(), AllocError>
-    requires len { code.len ≤ row_len solution.now.code code.method.0 }
-    requires ret { code.method.0 < row_len solution.now.ends 0 }
-    requires exc { code.method.0 < row_len solution.now.ends 1 }
-    ensures { OnOk result (rows.new.items ≡ rows.old.items ++ code_bodies solution.now code.method.0 code.len) }
+    requires { HasCode solution.now code.method.0 code.len }
+    ensures { OnOk result (rows.new.items ≡ rows.old.items ++ code_bodies (holds solution.now) code.method.0 code.len) }
 {
     let facts = facts_of(solution, code);
     for entry in 0..8u8 {
@@ -181,7 +173,7 @@ fn put_method(
 ) -> Result<(), AllocError>
     requires method { method.0 < length subject.now.app.methods }
     requires places { HasPlaces subject.now solution.now }
-    ensures { OnOk result (rows.new.items ≡ rows.old.items ++ method_bodies subject.now solution.now method.0) }
+    ensures { OnOk result (rows.new.items ≡ rows.old.items ++ method_bodies subject.now (holds solution.now) method.0) }
 {
     if !subject.reaches(method) {
         return Ok(());
@@ -192,7 +184,7 @@ fn put_method(
 
 fn bodies(alloc: Global, subject: &Subject, solution: &Solution) -> Result<Vec<BodyRow>, AllocError>
     requires { HasPlaces subject.now solution.now }
-    ensures { IfOk result (λ rows. rows.items ≡ flat_map (method_bodies subject.now solution.now) (numbers_below (length subject.now.app.methods))) }
+    ensures { IfOk result (λ rows. rows.items ≡ flat_map (method_bodies subject.now (holds solution.now)) (numbers_below (length subject.now.app.methods))) }
 {
     let mut rows = Vec::new(alloc);
     for method in 0..subject.app.method_count() {
@@ -235,7 +227,7 @@ fn part(
     requires sound { IsSoundApp subject.now.app }
     requires lock { lock.0 < length subject.now.app.locks }
     requires places { HasPlaces subject.now solution.now }
-    ensures rows { IfOk result (λ p. p ≡ part_of subject.now lock.0 solution.now) }
+    ensures rows { IfOk result (λ p. p ≡ part_of subject.now lock.0 (holds solution.now)) }
     ensures shown { IfOk result (λ p. is_shown p.name ≡ true) }
 {
     Ok(LockPart {
@@ -256,7 +248,7 @@ pub fn lock_part(
 ) -> Result<LockPart, OutOfMemory>
     requires lock { lock.0 < slot_count subject.now }
     requires places { HasPlaces subject.now solution.now }
-    ensures rows { IfOk result (λ p. p ≡ part_of subject.now lock.0 solution.now) }
+    ensures rows { IfOk result (λ p. p ≡ part_of subject.now lock.0 (holds solution.now)) }
     // It has a text.
     ensures text { IfOk result (λ p. IsPart p) }
 {
