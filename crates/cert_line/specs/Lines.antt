@@ -2,7 +2,7 @@
 use Rattle.std.specs.Prelude.{ℕ, ◌≡◌, ◌<◌, ◌^◌, Bool, List, [], ◌∷◌, ◌++◌, length, nat_lt, ◌&&◌, ◌||◌, codes, decimal, IsTrue}
 use Rattle.std.specs.List.{join_with_byte, list_any, list_all, AllByRecursion}
 use Rattle.cert_line.specs.Fields.{hex_byte, hex_bytes, status_name}
-use Rattle.cert_line.specs.Parts.{BodyParts, NameParts}
+use Rattle.cert_line.specs.Parts.{BodyParts}
 use Rattle.cert_line.specs.declared.rows.Line.{Line}
 use Rattle.cert_line.specs.declared.rows.Line.TheVariants.{Version, ListDigest, DexDigest, Lock, View, Body, End}
 

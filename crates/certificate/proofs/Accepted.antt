@@ -5,8 +5,8 @@ use Rattle.std.proofs.lemmas.Bool.{lt-ltb, eq-eqb}
 use Rattle.std.proofs.lemmas.List.{append-nil}
 use Rattle.cert_line.specs.declared.rows.ViewRow.{ViewRow}
 use Rattle.cert_line.specs.declared.rows.Line.{Line}
-use Rattle.cert_line.specs.declared.rows.Line.TheVariants.{Version, ListDigest, DexDigest, Lock, View, Body, End}
-use Rattle.cert_line.specs.Parts.{BodyParts, NameParts}
+use Rattle.cert_line.specs.declared.rows.Line.TheVariants.{Version, ListDigest, DexDigest, View, Body, End}
+use Rattle.cert_line.specs.Parts.{BodyParts}
 use Rattle.cert_line.specs.Lines.{Fits, name_line}
 use Rattle.certificate.specs.declared.reading.Place.{Place}
 use Rattle.certificate.specs.declared.reading.Place.TheVariants as places

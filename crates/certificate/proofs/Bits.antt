@@ -1,14 +1,14 @@
 -- Masks of statuses that pass a test, and rows of words.
-use Rattle.std.proofs.Common.{◌≡◌, ℕ, zero, suc, ◌+◌, ◌-◌, ◌*◌, ◌^◌, ◌<◌, ◌≤◌, Bool, true, false, eqb, ltb, refl, sym, ap, ◌∙◌, ⊎_elim, inl, inr, arith, lit<, lit≤}
+use Rattle.std.proofs.Common.{◌≡◌, ℕ, zero, suc, ◌+◌, ◌-◌, ◌*◌, ◌^◌, ◌<◌, Bool, true, false, eqb, ltb, refl, sym, ap, ◌∙◌, ⊎_elim, inl, inr, arith, lit<}
 use Rattle.std.specs.Prelude.{◌⊎◌, bit_or}
 use Rattle.std.specs.Int.{bit_at}
-use Rattle.std.proofs.lemmas.Bool.{eqb-true, eqb-false, ltb-true, lt-ltb, cases_lt}
-use Rattle.std.proofs.lemmas.Nat.Bits.{same_from_bits_below, bit_at-lt, bit_at_lowest, bit_at-zero, bit_at_cat_low, bit_at_cat_high}
+use Rattle.std.proofs.lemmas.Bool.{ltb-true, lt-ltb, cases_lt}
+use Rattle.std.proofs.lemmas.Nat.Bits.{same_from_bits_below, bit_at-lt, bit_at-zero, bit_at_cat_low, bit_at_cat_high}
 use Rattle.std.proofs.Math.Nat.{two-pow-succ}
 use Rattle.app_model.specs.Facts.{Fact, At, Ret, Exc}
 use Rattle.app_model.specs.Masks.{in_mask}
 use Rattle.solution.specs.Words.{has, AreRows}
-use Rattle.solution.proofs.Bits.{mask_true, has_true, has_from, in_mask_is, none_in}
+use Rattle.solution.proofs.Bits.{has_true, has_from, in_mask_is, none_in}
 use Rattle.solution.proofs.Ors.{or_bit, or_left, or_right}
 use Rattle.certificate.specs.Solved.{bit_of, mask_below, mask_of, BodyFact, HasRow}
 

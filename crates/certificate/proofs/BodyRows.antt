@@ -1,6 +1,6 @@
 -- A row has some fact exactly where its method has one at that entry status.
-use Rattle.std.proofs.Common.{◌≡◌, ℕ, zero, suc, ◌+◌, ◌^◌, ◌<◌, ◌≤◌, Bool, true, false, ltb, List, [], ◌∷◌, ◌++◌, length, map, refl, sym, ap, ◌∙◌, ⊎_elim, inl, inr, arith}
-use Rattle.std.specs.Prelude.{◌⊎◌, ◌||◌}
+use Rattle.std.proofs.Common.{◌≡◌, ℕ, zero, suc, ◌+◌, ◌^◌, ◌<◌, ◌≤◌, Bool, true, false, ltb, List, [], ◌∷◌, ◌++◌, length, map, refl, sym, ap, ◌∙◌, inl, inr, arith}
+use Rattle.std.specs.Prelude.{◌||◌}
 use Rattle.std.specs.List.{filter, list_any, range_with_len}
 use Rattle.std.proofs.lemmas.List.FromFn.{map-range_with_len_more}
 use Rattle.std.proofs.lemmas.Bool.{ltb-true, lt-ltb, cases_lt, cases_Bool, or_cases, or_left, or_right, cond-true, cond-false}
@@ -10,7 +10,7 @@ use Rattle.app_model.specs.Subject.{SubjectParts, is_reached}
 use Rattle.app_model.specs.Words.{code_len}
 use Rattle.solution.specs.Facts.{Facts, place_count, HasPlaces}
 use Rattle.solution.specs.Table.{row_len}
-use Rattle.solution.specs.Words.{has, AreRows}
+use Rattle.solution.specs.Words.{AreRows}
 use Rattle.solution.proofs.Bits.{has_true}
 use Rattle.cert_line.specs.Lines.{has_fact}
 use Rattle.cert_line.specs.Parts.{BodyParts}

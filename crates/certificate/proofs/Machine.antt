@@ -10,7 +10,7 @@ use Rattle.cert_line.specs.Reading.{◌>>=◌}
 use Rattle.cert_line.specs.declared.rows.ViewRow.{ViewRow}
 use Rattle.cert_line.specs.declared.rows.Line.{Line}
 use Rattle.cert_line.specs.declared.rows.Line.TheVariants.{Version, ListDigest, DexDigest, Lock, View, Body, End}
-use Rattle.cert_line.specs.Parts.{BodyParts, NameParts}
+use Rattle.cert_line.specs.Parts.{BodyParts}
 use Rattle.cert_line.specs.Lines.{Fits, is_shown, name_line}
 use Rattle.cert_line.proofs.Choices.{bind_some}
 use Rattle.certificate.specs.declared.reading.Place.{Place}

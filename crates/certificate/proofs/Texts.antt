@@ -3,8 +3,7 @@ use Rattle.std.proofs.Common.{◌≡◌, ℕ, zero, suc, ◌+◌, ◌<◌, List,
 use Rattle.std.specs.List.{flat_map}
 use Rattle.std.proofs.lemmas.List.{append-nil}
 use Rattle.std.proofs.lemmas.List.Concat.{flat_map-append}
-use Rattle.cert_line.specs.declared.rows.Line.TheVariants.{Version, ListDigest, DexDigest, Lock, View, Body, End}
-use Rattle.cert_line.specs.Parts.{NameParts}
+use Rattle.cert_line.specs.declared.rows.Line.TheVariants.{Version, ListDigest, DexDigest, View, Body, End}
 use Rattle.cert_line.specs.Lines.{with_feed, name_line}
 use Rattle.certificate.specs.Parts.{LockRows, CertParts}
 use Rattle.certificate.specs.Texts.{lock_lines, certificate_text}

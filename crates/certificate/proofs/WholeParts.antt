@@ -1,6 +1,6 @@
 -- The part that facts give has a text.
-use Rattle.std.proofs.Common.{◌≡◌, ℕ, zero, suc, ◌+◌, ◌*◌, ◌^◌, ◌<◌, ◌≤◌, Bool, true, false, cond, List, [], map, length, sym, ap, subst, ◌∙◌, arith, lit<, refl}
-use Rattle.std.specs.List.{AllByRecursion, flat_map, range_with_len, filter}
+use Rattle.std.proofs.Common.{◌≡◌, ℕ, zero, suc, ◌+◌, ◌*◌, ◌^◌, ◌<◌, Bool, true, false, cond, [], map, length, arith, lit<, refl}
+use Rattle.std.specs.List.{AllByRecursion, flat_map, range_with_len}
 use Rattle.std.proofs.lemmas.Bool.{ltb-true}
 use Rattle.std.proofs.lemmas.List.FromFn.{length-map-range_with_len}
 use Rattle.app_model.specs.Shown.{lock_text}
@@ -8,14 +8,12 @@ use Rattle.app_model.specs.Subject.{SubjectParts, IsSubject, is_reached}
 use Rattle.app_model.specs.Words.{code_len}
 use Rattle.app_model.specs.Facts.{Fact, At}
 use Rattle.cert_line.specs.Lines.{Fits, AreBytes, is_shown, has_fact}
-use Rattle.cert_line.specs.Parts.{BodyParts}
-use Rattle.cert_line.specs.declared.rows.ViewRow.{ViewRow}
 use Rattle.cert_line.specs.declared.rows.Line.TheVariants as lines
 use Rattle.certificate.specs.Solved.{mask_of, numbers_below, view_row, has_status, component_views, masks_of, body_row, code_bodies, method_bodies, part_of}
 use Rattle.certificate.specs.Texts.{IsPart, Rise, view_rank, body_rank}
 use Rattle.certificate.proofs.Bits.{mask_fits}
 use Rattle.certificate.proofs.Machine.{rise_lower}
-use Rattle.certificate.proofs.Rising.{all_rows, all_groups, IsGroup, group_of, no_group, rise_groups, up_more}
+use Rattle.certificate.proofs.Rising.{all_rows, all_groups, IsGroup, group_of, rise_groups, up_more}
 
 abbrev view_start : ℕ → ℕ
 view_start c = 256 * c

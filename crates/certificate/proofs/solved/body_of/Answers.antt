@@ -1,4 +1,4 @@
-use Rattle.std.proofs.Common.{ℕ, ◌^◌, ◌<◌, rules}
+use Rattle.std.proofs.Common.{◌^◌, ◌<◌, rules}
 use Rattle.solution.specs.Facts.{holds}
 use Rattle.certificate.proofs.BodyRows.{body_is}
 use Rattle.certificate.proofs.solved.body_of.Goals as goal

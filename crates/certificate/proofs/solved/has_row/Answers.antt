@@ -1,4 +1,4 @@
-use Rattle.std.proofs.Common.{ℕ, ◌^◌, ◌<◌, rules}
+use Rattle.std.proofs.Common.{◌^◌, ◌<◌, rules}
 use Rattle.certificate.proofs.Bits.{row_there, row_some}
 use Rattle.certificate.proofs.solved.has_row.Goals as goal
 

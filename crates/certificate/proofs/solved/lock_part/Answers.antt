@@ -1,4 +1,4 @@
-use Rattle.std.proofs.Common.{◌≡◌, true, subst, sym, ap, ◌∙◌}
+use Rattle.std.proofs.Common.{subst, sym, ap, ◌∙◌}
 use Rattle.cert_line.specs.Lines.{is_shown}
 use Rattle.solution.specs.Facts.{holds}
 use Rattle.certificate.specs.Parts.{LockRows}

@@ -1,4 +1,4 @@
-use Rattle.std.proofs.Common.{ℕ, ◌^◌, ◌<◌, rules}
+use Rattle.std.proofs.Common.{◌^◌, ◌<◌, rules}
 use Rattle.solution.specs.Facts.{holds}
 use Rattle.certificate.proofs.BodyRows.{more_masks}
 use Rattle.certificate.proofs.solved.masks.Goals as goal

@@ -1,4 +1,4 @@
-use Rattle.std.proofs.Common.{◌∙◌, ◌++◌, ◌∷◌, [], ap, List}
+use Rattle.std.proofs.Common.{◌∙◌, ◌++◌, ◌∷◌, [], ap}
 use Rattle.std.specs.List.{filter}
 use Rattle.cert_line.specs.declared.rows.ViewRow.{ViewRow}
 use Rattle.solution.specs.Facts.{holds}

@@ -1,4 +1,4 @@
-use Rattle.std.proofs.Common.{◌≡◌, ℕ, ◌^◌, ◌<◌, ap, rules}
+use Rattle.std.proofs.Common.{ℕ, ◌^◌, ◌<◌, ap, rules}
 use Rattle.cert_line.specs.declared.rows.ViewRow.{ViewRow}
 use Rattle.certificate.proofs.Bits.{mask_is}
 use Rattle.certificate.proofs.solved.view_of.Goals as goal
