@@ -1,0 +1,13 @@
+pub mod LastPart
+pub mod Ranges
+pub mod Bits
+pub mod BodyRows
+pub mod Rising
+pub mod ShownNames
+pub mod WholeParts
+pub mod Machine
+pub mod OneLine
+pub mod Accepted
+pub mod Laws
+pub mod Texts
+pub mod FirstWrong

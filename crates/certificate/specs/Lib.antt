@@ -1,0 +1,5 @@
+pub mod Parts
+pub mod Texts
+pub mod Reading
+pub mod Wrong
+pub mod Solved

@@ -1,0 +1,20 @@
+//! Certificates: the facts with which an application is accepted, and their text.
+//!
+//! - `parts` has what a certificate is.
+//! - `reading` has the certificate that a text spells, or the first wrong line.
+//! - `writing` has the text of a certificate.
+//! - `solved` has the part that the facts of a lock field give.
+#![tactic(auto)]
+
+mod parts;
+mod reading;
+mod solved;
+#[cfg(test)]
+mod tests;
+mod writing;
+
+pub use cert_line::{BodyRow, ViewRow};
+pub use parts::{CertFault, Certificate, LockPart};
+pub use reading::{one_certificate, read_certificate};
+pub use solved::lock_part;
+pub use writing::write_certificate;
