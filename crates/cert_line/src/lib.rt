@@ -16,5 +16,5 @@ pub use fields::cut;
 pub use reading::line_of;
 pub use rows::{BodyRow, Line, LockName, ViewRow};
 pub use writing::{
-    put_body, put_dex_digest, put_end, put_list_digest, put_lock, put_version, put_view,
+    name_of, put_body, put_dex_digest, put_end, put_list_digest, put_lock, put_version, put_view,
 };

@@ -214,16 +214,10 @@ fn head_under(alloc: Global, word: &[u8], rest: Option<&[u8]>) -> Result<Option<
     ensures { IfOk result (λ o. o ≡ head_in word.now (left (option_copied rest.entry))) }
 {
     if word == b"dex".as_slice() {
-        return Ok(match digest(alloc, rest)? {
-            None => None,
-            Some(digest) => Some(Line::DexDigest(digest)),
-        });
+        return Ok(digest(alloc, rest)?.map(Line::DexDigest));
     }
     if word == b"list".as_slice() {
-        return Ok(match digest(alloc, rest)? {
-            None => None,
-            Some(digest) => Some(Line::ListDigest(digest)),
-        });
+        return Ok(digest(alloc, rest)?.map(Line::ListDigest));
     }
     if word == b"nosleep".as_slice() {
         return Ok(version(rest));
@@ -240,22 +234,13 @@ fn line_under(alloc: Global, word: &[u8], rest: Option<&[u8]>) -> Result<Option<
     ensures { IfOk result (λ o. o ≡ line_in (word.now ∷ left (option_copied rest.entry))) }
 {
     if word == b"view".as_slice() {
-        return Ok(match view(rest) {
-            None => None,
-            Some(row) => Some(Line::View(row)),
-        });
+        return Ok(view(rest).map(Line::View));
     }
     if word == b"body".as_slice() {
-        return Ok(match body(alloc, rest)? {
-            None => None,
-            Some(row) => Some(Line::Body(row)),
-        });
+        return Ok(body(alloc, rest)?.map(Line::Body));
     }
     if word == b"lock".as_slice() {
-        return Ok(match lock(alloc, rest)? {
-            None => None,
-            Some(name) => Some(Line::Lock(name)),
-        });
+        return Ok(lock(alloc, rest)?.map(Line::Lock));
     }
     head_under(alloc, word, rest)
 }

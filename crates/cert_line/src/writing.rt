@@ -39,7 +39,8 @@ fn put_number(out: &mut Vec<u8>, n: u64) -> Result<(), AllocError>
     out.extend_from_slice(buffer.format(n).as_bytes())
 }
 
-fn name_of(status: u8) -> &'static [u8]
+/// The name of a status.
+pub fn name_of(status: u8) -> &'static [u8]
     ensures { result.now ≡ status_name status }
 {
     match status {

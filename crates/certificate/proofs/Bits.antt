@@ -24,7 +24,7 @@ lowest : (b : Bool) → bit_at (bit_of b) 0 ≡ bit_of b
 lowest true = refl
 lowest false = refl
 
-bit_below : (n : ℕ) (f : ℕ → Bool) (i : ℕ) → i < n → bit_at (mask_below n f) i ≡ bit_of (f i)
+pub bit_below : (n : ℕ) (f : ℕ → Bool) (i : ℕ) → i < n → bit_at (mask_below n f) i ≡ bit_of (f i)
 bit_below zero f i lt = absurd (omega arith)
 bit_below (suc n) f i lt =
     elim (cases_lt i n) [

@@ -66,7 +66,7 @@ fact_there set m n e h =
           (s.0, inr (inr (i.0, omega (arith, i.1), s.1)))
     ]
 
-fact_some : (set : Fact → Bool) (m n e s : ℕ) → s < 8 → BodyFact set m n e s → has_fact (body_row set m n e) ≡ true
+pub fact_some : (set : Fact → Bool) (m n e s : ℕ) → s < 8 → BodyFact set m n e s → has_fact (body_row set m n e) ≡ true
 fact_some set m n e s lt fact =
     let ret = mask_of (λ s. set (Ret m e s)) in
     let exc = mask_of (λ s. set (Exc m e s)) in

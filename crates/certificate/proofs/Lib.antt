@@ -5,6 +5,7 @@ pub mod BodyRows
 pub mod Rising
 pub mod ShownNames
 pub mod WholeParts
+pub mod PartFacts
 pub mod Machine
 pub mod OneLine
 pub mod Accepted
