@@ -5,8 +5,8 @@ ghost use Rattle.report_text.specs.Numbers.{numbers_text};
 ghost use Rattle.app_model.specs.Shown.{shown};
 
 use crate::numbers::push_numbers;
-use app_model::push_shown;
 use app_link::LinkFault;
+use app_model::push_shown;
 use std::alloc::{AllocError, Global};
 
 /// The files are no application. The name is that of the class row of a `DuplicateClass`, and

@@ -2,8 +2,8 @@
 ghost use Rattle.std.specs.Prelude.{◌≡◌, ◌++◌, IfOk};
 ghost use Rattle.report_text.specs.Refusals.{refused_text};
 
-use app_model::push_member;
 use crate::numbers::{push_decimal, push_numbers};
+use app_model::push_member;
 use scope_check::ScopeFault;
 use std::alloc::{AllocError, Global};
 

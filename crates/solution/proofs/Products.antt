@@ -118,12 +118,12 @@ module _ (mask : ℕ) (fits : mask < 2 ^ 8) where
   pub itself_is : AreRows (Itself mask) 8 (bit_and (mask * 0x0101010101010101) 0x8040201008040201)
   itself_is = record {
     there = λ e t e8 h. (let p = mask_true mask e h.1 in let is = own_bit e e p.0 p.0 in let own = bit_at-pow_same e in
-      rw h.0 (has_from _ e e p.0 p.0 (omega arith)));
+        rw h.0 (has_from _ e e p.0 p.0 (omega arith)));
     only = λ e t h. (let p = has_true _ e t h in let is = own_bit e t p.0 p.1 in let low = bit_at-lt mask t in let high = bit_at-lt (2 ^ e) t in
-      ⊎_elim
-      (λ (same : t ≡ e). (same, rw same at (mask_from mask t p.1 (omega arith))))
-      (λ ne. absurd (let none = bit_at-pow_other e t ne in omega arith))
-      (cases_eq t e));
+        ⊎_elim
+        (λ (same : t ≡ e). (same, rw same at (mask_from mask t p.1 (omega arith))))
+        (λ ne. absurd (let none = bit_at-pow_other e t ne in omega arith))
+        (cases_eq t e));
   }
 
 -- ---- joined, one status after the other
