@@ -26,7 +26,7 @@ violations_over x y alike violations are = record {
   ordered = are.ordered;
   exact = λ v. (
     λ has. same_violations x y alike v.lock v.component v.callback v.status ((are.exact v).0 has),
-    λ bad. (are.exact v).1 (same_violations y x (back x y alike) v.lock v.component v.callback v.status bad)
+    λ bad. (are.exact v).1 (same_violations y x (back x y alike) v.lock v.component v.callback v.status bad),
   );
 }
 
@@ -100,7 +100,7 @@ module _ (x y : SubjectParts) (sound : IsSubject x) (left : IsInScope x) (right 
     reached = told;
     answers = λ c l there slot. (
       λ is. answers_for_over x y left right c l ((left.answers c l there slot).0 is),
-      λ a. (left.answers c l there slot).1 (answers_for_over (beside x y) x right left c l a)
+      λ a. (left.answers c l there slot).1 (answers_for_over (beside x y) x right left c l a),
     );
     owners = λ l c. (λ is. owns_over x y left right l c ((left.owners l c).0 is), λ o. (left.owners l c).1 (owns_over (beside x y) x right left l c o));
     unbroken = right.unbroken;
