@@ -169,11 +169,6 @@ not_accepted (inl e) = cc
 not_accepted (inr (inl e)) = cc
 not_accepted (inr (inr e)) = cc
 
-not_memory : AsRefused exits.Memory → ⊥
-not_memory (inl e) = cc
-not_memory (inr (inl e)) = cc
-not_memory (inr (inr e)) = cc
-
 -- ---- files that can be judged are, as each subject that they come to
 abbrev pub AsJudged : Exit → Type 0
 AsJudged exit = (exit ≡ exits.Accept) ⊎ (exit ≡ exits.Reports)
@@ -278,7 +273,8 @@ module _ (listed : Result (List ListedParts) ListFault) (files : List (List ℕ)
 
 module _ (listed : Result (List ListedParts) ListFault) (files : List (List ℕ)) where
   outcome_of_judged : (s r : Result SubjectParts Refusal) (x : SubjectParts) (text : List ℕ) (exit : Exit) → s ≡ Ok x → ComesTo listed files s → ComesTo listed files r → IsOutcome r text exit → IsJudgement x text exit
-  outcome_of_judged _ r x text exit same (judged rows y l is b within scope) c o = judged_outcome listed files rows y l is b within scope r text exit c o
+  outcome_of_judged _ r x text exit same (judged rows y l is b within scope) c o =
+      subst (λ (z : SubjectParts). IsJudgement z text exit) (same_ok y x (Ok y) refl same) (judged_outcome listed files rows y l is b within scope r text exit c o)
   outcome_of_judged _ r x text exit same (bad_list fault e) c o = absurd (not_both x _ _ same refl)
   outcome_of_judged _ r x text exit same (bad_file rows i fault e fails) c o = absurd (not_both x _ _ same refl)
   outcome_of_judged _ r x text exit same (bad_link rows contents fault e are linked) c o = absurd (not_both x _ _ same refl)
@@ -297,12 +293,55 @@ accepted_safe : (form : Form) (all : List (List ℕ)) (r : Result SubjectParts R
 accepted_safe form all (Ok x) text comes is = (x, refl, (form_outcome form all (Ok x) x text exits.Accept comes comes is).1.1)
 accepted_safe form all (Err refusal) text comes is = absurd (not_accepted (refused_exit refusal text exits.Accept is))
 
--- no outcome is want of memory
-pub outcome_told : (form : Form) (all : List (List ℕ)) (r : Result SubjectParts Refusal) (text : List ℕ) (exit : Exit) → BytesComeTo form all r → IsOutcome r text exit → exit ≡ exits.Memory → ⊥
-outcome_told form all (Ok x) text exit comes is e = subst (λ (k : Exit). IsJudgement x text k) e (form_outcome form all (Ok x) x text exit comes comes is)
-outcome_told form all (Err refusal) text exit comes is e = not_memory (subst AsRefused e (refused_exit refusal text exit is))
+-- ---- what bytes come to is neither a fault of the outside nor want of memory
+abbrev pub is_told : Exit → Bool
+is_told exits.Accept = true
+is_told exits.Reports = true
+is_told exits.Bad = true
+is_told exits.Scope = true
+is_told exits.Limit = true
+is_told exits.Usage = false
+is_told exits.ReadFault = false
+is_told exits.WriteFault = false
+is_told exits.WatcherFault = false
+is_told exits.Memory = false
+is_told exits.Broken = false
+is_told exits.Partly = false
+
+told_judged : (exit : Exit) → AsJudged exit → is_told exit ≡ true
+told_judged exit (inl e) = ap is_told e
+told_judged exit (inr e) = ap is_told e
+
+told_refused : (exit : Exit) → AsRefused exit → is_told exit ≡ true
+told_refused exit (inl e) = ap is_told e
+told_refused exit (inr (inl e)) = ap is_told e
+told_refused exit (inr (inr e)) = ap is_told e
+
+outcome_exit : (form : Form) (all : List (List ℕ)) (r : Result SubjectParts Refusal) (text : List ℕ) (exit : Exit) → BytesComeTo form all r → IsOutcome r text exit → is_told exit ≡ true
+outcome_exit form all (Ok x) text exit comes is = told_judged exit (judgement_exit x text exit (form_outcome form all (Ok x) x text exit comes comes is))
+outcome_exit form all (Err refusal) text exit comes is = told_refused exit (refused_exit refusal text exit is)
+
+pub untold : (other : Exit) → is_told other ≡ false → (form : Form) (all : List (List ℕ)) (r : Result SubjectParts Refusal) (text : List ℕ) (exit : Exit) → BytesComeTo form all r → IsOutcome r text exit → exit ≡ other → ⊥
+untold other none form all r text exit comes is e = false≢true (sym none ∙ ap is_told (sym e) ∙ outcome_exit form all r text exit comes is)
 
 -- ---- from the answer to words and files to why it comes
+module _ (words : List (List ℕ)) (content : List ℕ → Option (List ℕ)) (before now : ℕ) where
+  pub read_cause : (text : List ℕ) (exit : Exit) → IsAnswer words content before now text exit → exit ≡ exits.ReadFault → Rose before now
+  read_cause _ _ (usage none) e = absurd (let no : ⊥ = cc in no)
+  read_cause _ _ (many_files form is many) e = absurd (let no : ⊥ = cc in no)
+  read_cause _ _ (unread form i file bytes is few there taken rose) e = rose
+  read_cause _ _ (too_long form i file bytes is few there taken long) e = absurd (let no : ⊥ = cc in no)
+  read_cause _ _ (read form bytes r text exit is few taken c o) e = absurd (untold exits.ReadFault refl form bytes r text exit c o e)
+  read_cause _ _ starved e = absurd (let no : ⊥ = cc in no)
+
+  pub not_write : (text : List ℕ) (exit : Exit) → IsAnswer words content before now text exit → exit ≡ exits.WriteFault → ⊥
+  not_write _ _ (usage none) e = cc
+  not_write _ _ (many_files form is many) e = cc
+  not_write _ _ (unread form i file bytes is few there taken rose) e = cc
+  not_write _ _ (too_long form i file bytes is few there taken long) e = cc
+  not_write _ _ (read form bytes r text exit is few taken c o) e = untold exits.WriteFault refl form bytes r text exit c o e
+  not_write _ _ starved e = cc
+
 abbrev pub AreTakenOf : (List ℕ → Option (List ℕ)) → Form → List (List ℕ) → Type 0
 AreTakenOf content form bytes = AreTakenTo content (files_of form) (length (files_of form)) bytes
 

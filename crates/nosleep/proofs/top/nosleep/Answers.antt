@@ -1,7 +1,7 @@
 use Rattle.std.proofs.Common.{[], map, string_bytes, refl, inl, inr}
 use Rattle.ns_base.specs.declared.answers.Exit.TheVariants as exits
 use Rattle.nosleep.specs.Answer.{starved}
-use Rattle.nosleep.proofs.Judgements.{accepted, exact_of, judged_exit, unjudged}
+use Rattle.nosleep.proofs.Judgements.{accepted, exact_of, judged_exit, not_write, read_cause, unjudged}
 use Rattle.nosleep.proofs.Pieces.{WroteAll-none}
 use Rattle.nosleep.proofs.top.nosleep.Goals as goal
 
@@ -17,6 +17,14 @@ pub returns-clause-answer : goal.returns-clause-answer
 returns-clause-answer g c =
     let wrote = rw c.deref.ensures.value at c.in-Err-write_all.ensures.part in
     (c.in-Ok.answer.exit, c.in-Ok.answer.text.items, c.in-Ok.ensures.answer, inr (refl, c.in-Ok.ensures.judged, wrote, c.in-Err-write_all.ensures.cause))
+
+pub returns-in-Ok-write_all-clause-read : goal.returns-in-Ok-write_all-clause-read
+returns-in-Ok-write_all-clause-read g c =
+    read_cause (map string_bytes c.args.words.now) (g.F.Shelf.content c.args.shelf.now) (g.F.Shelf.faults c.args.shelf.now) (g.F.Shelf.faults c.find_answer.new.shelf) c.in-Ok.answer.text.items c.in-Ok.answer.exit c.in-Ok.ensures.answer
+
+pub returns-in-Ok-write_all-clause-write : goal.returns-in-Ok-write_all-clause-write
+returns-in-Ok-write_all-clause-write g c = λ e.
+    absurd (not_write (map string_bytes c.args.words.now) (g.F.Shelf.content c.args.shelf.now) (g.F.Shelf.faults c.args.shelf.now) (g.F.Shelf.faults c.find_answer.new.shelf) c.in-Ok.answer.text.items c.in-Ok.answer.exit c.in-Ok.ensures.answer e)
 
 pub returns-in-Ok-write_all-clause-sound : goal.returns-in-Ok-write_all-clause-sound
 returns-in-Ok-write_all-clause-sound g c = λ same form all is told.
