@@ -12,7 +12,6 @@ use Rattle.app_model.specs.Reach.{Assigns, IsReached, StoresAt, called, given, i
 use Rattle.app_model.specs.Slots.{is_object_access, lock_named, slot_at}
 use Rattle.app_model.specs.Targets.{method_no}
 use Rattle.app_model.specs.Words.{field_named_at, ins_at}
-use Rattle.act_model.specs.declared.act.Act.{Act}
 use Rattle.act_model.specs.declared.act.Act.TheVariants.{Go, Check, TakeResult, Test, Write, WriteSlot}
 use Rattle.act_model.specs.declared.act.Throws.{Throws}
 use Rattle.act_model.specs.declared.act.Throws.TheVariants.{Never, WhereZero}
