@@ -24,6 +24,7 @@ sys.dont_write_bytecode = True
 tools = pathlib.Path(__file__).resolve().parent
 sys.path.insert(0, str(tools))
 import assemble
+import dex_listing
 import paths
 import test_sarif
 import verdicts
@@ -97,6 +98,15 @@ class Words(unittest.TestCase):
                     ran = subprocess.run([tools / tool, words], capture_output=True, text=True)
                     self.assertEqual(ran.returncode, status)
                     self.assertIn(said, ran.stdout + ran.stderr)
+
+
+    @unittest.skipUnless(pathlib.Path("/dev/full").exists(), "there is no /dev/full here")
+    def test_a_full_disk(self):
+        for tool, words in (("list-from-manifest", [LEAKY / "AndroidManifest.xml"]), ("report-to-sarif", [SAMPLES / "answers/leaky.txt"]), ("report-to-html", [SAMPLES / "answers/leaky.txt"])):
+            with self.subTest(tool), open("/dev/full", "wb") as full:
+                ran = subprocess.run([tools / tool, *words], stdout=full, stderr=subprocess.PIPE, text=True)
+                self.assertEqual(ran.returncode, 1)
+                self.assertIn("standard output cannot be written: No space left", ran.stderr)
 
 
 class Lists(Case):
@@ -261,6 +271,12 @@ class Paths(unittest.TestCase):
         (_, rows), = paths.parts_of(verdicts.answer_of(text.encode()).reports[0], Nameless)
         self.assertEqual((len(rows), max(row.depth for row in rows)), (10_000, 4_999))
 
+    def test_ends_of_long_paths(self):
+        parts = [("a", [1, 2, 3]), ("b", []), ("c", [4, 5])]
+        for most, kept in ((9, [[1, 2, 3], [], [4, 5]]), (4, [[2, 3], [], [4, 5]]), (1, [[], [], [5]])):
+            found, left_out = paths.ends_of(parts, most)
+            self.assertEqual(([rows for _, rows in found], left_out), (kept, max(0, 5 - most)))
+
     def test_held_since(self):
         for name, expected in (("leaky", (2, 8)), ("thrown_leaks", (0, 15)), ("two_services", (1, 23))):
             report = verdicts.answer_of(WHOLE[name].encode()).reports[-1]
@@ -342,11 +358,28 @@ class Sarif(Case):
                 self.assertIn(old, text)
                 self.assertNotEqual(test_sarif.faults(json.loads(text.replace(old, new, 1))), [])
 
-    @needs("dexdump")
+    LISTING = """\
+  Class descriptor  : 'Lorg/x y/R;'
+  Virtual methods   -
+    #0              : (in Lorg/x y/R;)
+      name          : 'run'
+      type          : '()V'
+000100: 0000                                   |0000: nop // spacer
+000102: 0e00                                   |0001: return-void
+      positions     :
+        0x0000 line=12
+  source_file_idx   : 3 (R.java)
+"""
+
     def test_source_lines(self):
-        # the sample has no lines: places stay in the DEX file
-        result = self.log(HEADS, "--dex", self.dex, "--source-root", "app/src")["results"][0]
-        self.assertIn("byteOffset", result["locations"][0]["physicalLocation"]["region"])
+        reader = dex_listing.Reader("a b.dex", 0)
+        for line in self.LISTING.splitlines(True):
+            reader.take(line)
+        method, = reader.methods
+        self.assertEqual((method.shown(), method.proto), ("Lorg/x\\x20y/R;->run", "()V"))
+        for root, uri, region in ((None, "a%20b.dex", {"byteOffset": 0x102, "byteLength": 2}), ("src", "src/org/x%5Cx20y/R.java", {"startLine": 12})):
+            place = loaded("report-to-sarif").Writer(None, root).physical(method, 1, method.rows[1])
+            self.assertEqual((place["artifactLocation"]["uri"], place["region"]), (uri, region))
 
     @needs("dexdump")
     def test_refusal_with_its_place(self):
@@ -471,7 +504,11 @@ class Program(Case):
         listed = run("list-from-manifest", LEAKY / "AndroidManifest.xml", "--runnables", self.dex)[1]
         self.assertEqual(self.verified([self.written("l.toml", listed), self.dex]), (2, REFUSED))
         whole = self.written("l.toml", re.sub(r"^#(\[\[|class|kind)", r"\1", listed, flags=re.M))
-        self.assertEqual(self.verified([whole, self.dex]), (1, HEADS))
+        status, answer = self.verified([whole, self.dex])
+        heads = "".join(line for line in answer.splitlines(True) if line.startswith("report "))
+        self.assertEqual((status, heads), (1, HEADS))
+        for writer in ("report-to-sarif", "report-to-html"):
+            self.assertEqual(run(writer, "-", "--list", whole, "--dex", self.dex, given=answer.encode())[0], 0)
         text = (LEAKY / "app.txt").read_text().replace("failed:\nmove-exception v0\nreturn-void", "failed:\nmove-exception v0\ninvoke-static Lcom/example/leaky/Power;->drop()V\nreturn-void")
         self.assertEqual(self.verified([whole, self.written("mended.dex", assemble.assemble(text))])[0], 0)
 
