@@ -25,8 +25,8 @@ REPORT = {
            "release frees it."),
     "U1": ("HeldUncounted", "The field holds a lock that is not reference counted, and that is held when the callback has ended.",
            "One `release()` frees it, however often it was acquired: call it on each way out, and in a `finally`."),
-    "L": ("Lost", "A lock that once was in the field is held when the callback has ended, and is in the field no more: nothing can release it. "
-          "A new lock or null was stored over it, or the object whose field held it was made anew.",
+    "L": ("Lost", "A lock that once was in the field is held when the callback has ended, and is in the field no more: nothing can "
+          "release it. A new lock or null was stored over it, or the object whose field held it was made anew.",
           "Make the lock once, where the field is null, or release it before the field is stored to."),
 }
 
@@ -38,7 +38,8 @@ RULE = {
            "Call the method itself, or let the listed callbacks not reach the reflective part."),
     "N3": ("Thread", "what callbacks reach makes or uses a thread, a timer, an executor or an asynchronous task",
            "Post the work to the main thread and list it as a runnable."),
-    "N4": ("Escape", "a wake lock is handed on: to a call, another field or an array, or something else than null or a new lock is stored into a lock field",
+    "N4": ("Escape", "a wake lock is handed on: to a call, another field or an array, or something else than null or a new lock is "
+           "stored into a lock field",
            "Read the lock from its field where it is used, right before the use."),
     "N5": ("LockCall", "a call on a wake lock of another form, or on a lock that is in no field",
            "Use acquire, release, isHeld and setReferenceCounted on what a field holds."),
@@ -56,10 +57,15 @@ RULE = {
 
 # The other answers by their kind, and by the first words of their text where these say more; the first that fits is taken.
 ANSWER = [
-    ("bad list NoClass", "NoListedClass", "The list names a class that none of the DEX files has: name all DEX files of the package, or take the component out of the list."),
-    ("bad list NoCallback", "NoCallback", "The class has no `onReceive` (a receiver) or `run` (a runnable) of its own or of a class above it in the files: take the component out of the list."),
+    ("bad list NoClass", "NoListedClass",
+     "The list names a class that none of the DEX files has: name all DEX files of the package, or take the component out of the list."),
+    ("bad list NoCallback", "NoCallback",
+     "The class has no `onReceive` (a receiver) or `run` (a runnable) of its own or of a class above it in the files: take the component "
+     "out of the list."),
     ("bad list", "BadList", "The component list is not as `docs/command.md` says."),
-    ("bad dex", "BadDex", "A DEX file is faulty, or of another version than 035. For `Signature` of old d8 files use `tools/reseal`; for `Version` build with a lower minSdkVersion."),
+    ("bad dex", "BadDex",
+     "A DEX file is faulty, or of another version than 035. For `Signature` of old d8 files use `tools/reseal`; for `Version` build with a "
+     "lower minSdkVersion."),
     ("bad link", "BadLink", "The DEX files are no one application: a class stands twice, or code stands where there must be none."),
     ("limit", "Limit", "The application is larger than the program's limits."),
     ("cannot read", "Unread", "A file could not be read."),

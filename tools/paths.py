@@ -43,6 +43,16 @@ def parts_of(report, names):
     return parts
 
 
+def ends_of(parts, most):
+    """The same with the last instructions alone, so many in all, and how many are left out."""
+    left_out = max(0, sum(len(rows) for _, rows in parts) - most)
+    kept, skipped = [], left_out
+    for step, rows in parts:
+        kept.append((step, rows[skipped:]))
+        skipped = max(0, skipped - len(rows))
+    return kept, left_out
+
+
 def steps_of(report):
     """The callbacks of a report, the first one first."""
     end, view = report.exit, report.views[report.exit.view]

@@ -37,7 +37,8 @@ class Package:
         _, _, self.apart = run("apktool", "d", "-s", "-o", str(self.folder), str(apk))
         self.files = sorted(map(str, self.folder.glob("*.dex")), key=lambda name: (len(name), name))
         self.list = folder / "list.toml"
-        status, text, self.listing = run(tools / "list-from-manifest", self.folder / "AndroidManifest.xml", *["--runnables"][:len(self.files)], *self.files)
+        words = ["--runnables", *self.files] if self.files else []
+        status, text, self.listing = run(tools / "list-from-manifest", self.folder / "AndroidManifest.xml", *words)
         self.has_list = status == 0
         self.list.write_text(text)
 

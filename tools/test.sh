@@ -5,8 +5,8 @@
 #
 # Where FOLDER is named, each application package in it is taken from the package to the answer, too.
 cd "$(dirname "$0")" || exit 2
-if ! command -v python3 > /dev/null; then
-    echo "there is no python3 here: the tools are not tested"
+if ! python3 -c 'import tomllib' 2> /dev/null; then
+    echo "there is no python3 of version 3.11 or later here: the tools are not tested"
     exit 0
 fi
 status=0

@@ -24,6 +24,7 @@ sys.dont_write_bytecode = True
 tools = pathlib.Path(__file__).resolve().parent
 sys.path.insert(0, str(tools))
 import assemble
+import dex_listing
 import paths
 import test_sarif
 import verdicts
@@ -37,9 +38,11 @@ WHOLE = {name: (SAMPLES / f"answers/{name}.txt").read_text() for name in ("leaky
 REFUSED = "refused N8 Lcom/example/leaky/MainActivity$Early;->run 8 0\n"
 # Answers that are no verdict, and the name of their notification.
 UNJUDGED = [
-    (REFUSED, "N8"), ("refused N10 Lapp/R;-><init> 3 0\n", "N10"), ("bad list NoClass 1\n", "NoListedClass"), ("bad list NoCallback 0\n", "NoCallback"),
+    (REFUSED, "N8"), ("refused N10 Lapp/R;-><init> 3 0\n", "N10"),
+    ("bad list NoClass 1\n", "NoListedClass"), ("bad list NoCallback 0\n", "NoCallback"),
     ("bad list Key 0 x\n", "BadList"), ("bad dex 0 Signature\n", "BadDex"), ("bad link DuplicateClass Lapp/R; 1 0\n", "BadLink"),
-    ("limit Files\n", "Limit"), ("cannot read a\\x20b\n", "Unread"), ("usage: nosleep receiver DEX CLASS\n       nosleep verify LIST DEX...\n", "Usage"),
+    ("limit Files\n", "Limit"), ("cannot read a\\x20b\n", "Unread"),
+    ("usage: nosleep receiver DEX CLASS\n       nosleep verify LIST DEX...\n", "Usage"),
 ]
 
 
@@ -99,6 +102,16 @@ class Words(unittest.TestCase):
                     self.assertIn(said, ran.stdout + ran.stderr)
 
 
+    @unittest.skipUnless(pathlib.Path("/dev/full").exists(), "there is no /dev/full here")
+    def test_a_full_disk(self):
+        manifest, answer = LEAKY / "AndroidManifest.xml", SAMPLES / "answers/leaky.txt"
+        for tool, name in (("list-from-manifest", manifest), ("report-to-sarif", answer), ("report-to-html", answer)):
+            with self.subTest(tool), open("/dev/full", "wb") as full:
+                ran = subprocess.run([tools / tool, name], stdout=full, stderr=subprocess.PIPE, text=True)
+                self.assertEqual(ran.returncode, 1)
+                self.assertIn("standard output cannot be written: No space left", ran.stderr)
+
+
 class Lists(Case):
     # An application's entries, and the classes with their kinds that are listed.
     LISTED = [
@@ -117,7 +130,8 @@ class Lists(Case):
         (b"", "is empty"), (b" \n", "is empty"), (b"\3\0\x08\0\x40\0\0\0", "binary manifest, as packages have it: `apktool d`"),
         (b"PK\3\4", "is a package: `apktool d`"), (b"<manifest", "is no XML text"), (b"\0\0\0", "is no XML text"), (b"<a/>", "its root is <a>"),
         (b'<?xml version="1.0" encoding="no-such"?><manifest/>', "is no XML text"),
-        (b'<manifest package="x"><application><activity name=".A"/></application></manifest>', "an <activity> has no name in the namespace of Android"),
+        (b'<manifest package="x"><application><activity name=".A"/></application></manifest>',
+         "an <activity> has no name in the namespace of Android"),
         (f'<manifest {ANDROID}><application><service android:name=".S"/></application></manifest>'.encode(), "names no package"),
         (f'<manifest {ANDROID} package="x"><application><service android:name="a b"/></application></manifest>'.encode(), "is no class name"),
         (f'<manifest {ANDROID} package="x"><application><service android:name=""/></application></manifest>'.encode(), "is no class name"),
@@ -139,7 +153,8 @@ class Lists(Case):
         self.assertEqual(self.listed('<manifest package="x"/>'), [])
 
     def test_another_prefix(self):
-        manifest = '<manifest xmlns:a="http://schemas.android.com/apk/res/android" package="x"><application><service a:name=".S"/></application></manifest>'
+        prefix = ANDROID.replace("xmlns:android", "xmlns:a")
+        manifest = f'<manifest {prefix} package="x"><application><service a:name=".S"/></application></manifest>'
         self.assertEqual(self.listed(manifest), ["service Lx/S;"])
 
     def test_bad_manifests(self):
@@ -174,11 +189,14 @@ class Lists(Case):
 class Answers(Case):
     # What becomes of a line of a whole report that no program writes: the line, and what it becomes.
     WRONG = [
-        ("report 2 of 3", "report 3 of 3"), ("report 2 of 3", "report 2 of 4"), ("is C1 after", "is C0 after"), ("body 1 4 A", "body 2 4 A"), ("0/A/0 3/C0", "0/A/1 3/C0"),
-        ("0/A/0", "0/A/0/0"), ("0/A/0", "0"), ("0/A/0", "00/A"), ("0/A/0", "+0/A"), ("0/A/0", "0/B"), ("ret C0", "out C0"), ("view 2 0 2 C0 outside 1 1", "view 2 0 2 C0 outside 2 1"),
-        ("view 2 0 2 C0 outside 1 1", "view 2 0 2 C0 outside 1"), ("own 0 0 1", "own 0 0 7"), ("own 0 0 1", "other 0 1 0 1"), ("own 0 0 1", "away 0 0 1"),
-        ("exit 0 5 C1 3 6 0", "exit 0 5 C1 4 6 0"), ("exit 0 5 C1 3 6 0", "exit 0 5 C1 3 7 0"), ("exit 0 5 C1 3 6 0", "exit 0 5 C1 3 6"), ("exit 0 5 C1 3 6 0\n", "exit 0 5 C1 3 6 0\nexit 0 5 C1 3 6 0\n"),
-        ("exit 0 5 C1 3 6 0\n", ""), ("view 0 0 0 A start\n", "view 0 0 0 A start\nbody 7 3 C1 ret C1 0/C1\n"),
+        ("report 2 of 3", "report 3 of 3"), ("report 2 of 3", "report 2 of 4"), ("is C1 after", "is C0 after"),
+        ("body 1 4 A", "body 2 4 A"), ("ret C0", "out C0"), ("0/A/0 3/C0", "0/A/1 3/C0"),
+        ("0/A/0", "0/A/0/0"), ("0/A/0", "0"), ("0/A/0", "00/A"), ("0/A/0", "+0/A"), ("0/A/0", "0/B"),
+        ("outside 1 1", "outside 2 1"), ("outside 1 1", "outside 1"),
+        ("own 0 0 1", "own 0 0 7"), ("own 0 0 1", "other 0 1 0 1"), ("own 0 0 1", "away 0 0 1"),
+        ("exit 0 5 C1 3 6 0", "exit 0 5 C1 4 6 0"), ("exit 0 5 C1 3 6 0", "exit 0 5 C1 3 7 0"), ("exit 0 5 C1 3 6 0", "exit 0 5 C1 3 6"),
+        ("exit 0 5 C1 3 6 0\n", "exit 0 5 C1 3 6 0\nexit 0 5 C1 3 6 0\n"), ("exit 0 5 C1 3 6 0\n", ""),
+        ("view 0 0 0 A start\n", "view 0 0 0 A start\nbody 7 3 C1 ret C1 0/C1\n"),
     ]
 
     def refused(self, text):
@@ -186,8 +204,9 @@ class Answers(Case):
             verdicts.answer_of(text.encode())
 
     def test_whole_reports(self):
-        sizes = {name: [(len(report.bodies), len(report.views)) for report in verdicts.answer_of(text.encode()).reports] for name, text in WHOLE.items()}
-        self.assertEqual(sizes, {"leaky": [(7, 4), (7, 5), (7, 6)], "thrown_leaks": [(1, 1), (2, 2)], "two_services": [(3, 8)]})
+        for name, expected in (("leaky", [(7, 4), (7, 5), (7, 6)]), ("thrown_leaks", [(1, 1), (2, 2)]), ("two_services", [(3, 8)])):
+            reports = verdicts.answer_of(WHOLE[name].encode()).reports
+            self.assertEqual([(len(report.bodies), len(report.views)) for report in reports], expected)
 
     def test_heads(self):
         for report in verdicts.answer_of(HEADS.encode()).reports:
@@ -216,7 +235,8 @@ class Answers(Case):
     def test_tools_say_what_is_wrong(self):
         for tool in ("report-to-sarif", "report-to-html"):
             for words, given, said in (
-                    (["-"], b"", "the text is empty"), (["-"], HEADS.encode()[:-1], "cut off"), (["-"], HEADS.encode().splitlines(True)[0], "report 2 of 3 is missing"),
+                    (["-"], b"", "the text is empty"), (["-"], HEADS.encode()[:-1], "cut off"),
+                    (["-"], HEADS.encode().splitlines(True)[0], "report 2 of 3 is missing"),
                     ([self.folder / "absent"], b"", "cannot be read"), (["-", "--list", self.dex], b"accept\n", "is no component list"),
                     (["-", "--list", self.folder / "absent"], b"accept\n", "cannot be read")):
                 with self.subTest(f"{tool} {said}"):
@@ -252,7 +272,8 @@ class Paths(unittest.TestCase):
         report = verdicts.answer_of(self.TWICE.encode()).reports[0]
         parts = paths.parts_of(report, Nameless)
         rows = [(row.depth, row.pc, row.is_again, row.throws) for row in parts[0][1]]
-        self.assertEqual(rows, [(0, 0, False, False), (1, 0, False, False), (1, 2, False, False), (0, 3, False, False), (0, 5, True, False), (0, 8, False, True)])
+        self.assertEqual(rows, [
+            (0, 0, False, False), (1, 0, False, False), (1, 2, False, False), (0, 3, False, False), (0, 5, True, False), (0, 8, False, True)])
         self.assertEqual(parts[1][1], [])
 
     def test_deep_calls(self):
@@ -260,6 +281,12 @@ class Paths(unittest.TestCase):
         text = f"report 1 of 1: La;->w is C1 after La;->f\n{bodies}view 0 0 0 C1 start\nexit 0 0 C1 0 4999 0\n"
         (_, rows), = paths.parts_of(verdicts.answer_of(text.encode()).reports[0], Nameless)
         self.assertEqual((len(rows), max(row.depth for row in rows)), (10_000, 4_999))
+
+    def test_ends_of_long_paths(self):
+        parts = [("a", [1, 2, 3]), ("b", []), ("c", [4, 5])]
+        for most, kept in ((9, [[1, 2, 3], [], [4, 5]]), (4, [[2, 3], [], [4, 5]]), (1, [[], [], [5]])):
+            found, left_out = paths.ends_of(parts, most)
+            self.assertEqual(([rows for _, rows in found], left_out), (kept, max(0, 5 - most)))
 
     def test_held_since(self):
         for name, expected in (("leaky", (2, 8)), ("thrown_leaks", (0, 15)), ("two_services", (1, 23))):
@@ -291,7 +318,8 @@ class Sarif(Case):
         return log["runs"][0]
 
     def test_verdicts(self):
-        for text, count in (("accept\n", 0), ("nosleep 1\nlist 0\nend\n", 0), (HEADS, 3), *((text, text.count("report ")) for text in WHOLE.values())):
+        reported = [(text, text.count("report ")) for text in WHOLE.values()]
+        for text, count in (("accept\n", 0), ("nosleep 1\nlist 0\nend\n", 0), (HEADS, 3), *reported):
             with self.subTest(text[:60]):
                 run = self.log(text)
                 self.assertEqual(len(run["results"]), count)
@@ -308,7 +336,8 @@ class Sarif(Case):
     def test_heads_have_no_flow(self):
         result = self.log(HEADS)["results"][0]
         self.assertNotIn("codeFlows", result)
-        self.assertEqual(result["locations"], [{"logicalLocations": [{"fullyQualifiedName": "Lcom/example/leaky/MainActivity;->onPause", "kind": "function"}]}])
+        name = {"fullyQualifiedName": "Lcom/example/leaky/MainActivity;->onPause", "kind": "function"}
+        self.assertEqual(result["locations"], [{"logicalLocations": [name]}])
         self.assertEqual(result["ruleId"], "C1")
 
     def test_flow_without_names(self):
@@ -330,23 +359,44 @@ class Sarif(Case):
     @needs("dexdump")
     def test_throws_in_a_flow(self):
         flow = self.log(WHOLE["leaky"], "--list", self.list, "--dex", self.dex)["results"][0]["codeFlows"][0]["threadFlows"][0]["locations"]
-        thrown = [(place["location"]["logicalLocations"][0]["fullyQualifiedName"], place["kinds"]) for place in flow if "throw" in place.get("kinds", [])]
+        thrown = [(place["location"]["logicalLocations"][0]["fullyQualifiedName"], place["kinds"])
+                  for place in flow if "throw" in place.get("kinds", [])]
         self.assertEqual(thrown, [("Lcom/example/leaky/MainActivity;->onPause", ["call", "throw"]), ("Lcom/example/leaky/Upload;->send", ["throw"])])
 
     def test_what_the_check_of_the_schema_refuses(self):
         text = run("report-to-sarif", "-", given=WHOLE["leaky"].encode())[1]
-        edits = [('"version": "2.1.0"', '"version": "2.0.0"'), ('"message"', '"massage"'), ('"level": "error"', '"level": "fatal"'), ('"ruleIndex": 0', '"ruleIndex": 1'),
-                 ('"nestingLevel": 1', '"nestingLevel": -1'), ('"id": "C1"', '"di": "C1"'), ('"executionSuccessful": true', '"executionSuccessful": 1'), ('"results": [', '"outcomes": [')]
+        edits = [
+            ('"version": "2.1.0"', '"version": "2.0.0"'), ('"message"', '"massage"'), ('"level": "error"', '"level": "fatal"'),
+            ('"ruleIndex": 0', '"ruleIndex": 1'), ('"nestingLevel": 1', '"nestingLevel": -1'), ('"id": "C1"', '"di": "C1"'),
+            ('"executionSuccessful": true', '"executionSuccessful": 1'), ('"results": [', '"outcomes": ['),
+        ]
         for old, new in edits:
             with self.subTest(new):
                 self.assertIn(old, text)
                 self.assertNotEqual(test_sarif.faults(json.loads(text.replace(old, new, 1))), [])
 
-    @needs("dexdump")
+    LISTING = """\
+  Class descriptor  : 'Lorg/x y/R;'
+  Virtual methods   -
+    #0              : (in Lorg/x y/R;)
+      name          : 'run'
+      type          : '()V'
+000100: 0000                                   |0000: nop // spacer
+000102: 0e00                                   |0001: return-void
+      positions     :
+        0x0000 line=12
+  source_file_idx   : 3 (R.java)
+"""
+
     def test_source_lines(self):
-        # the sample has no lines: places stay in the DEX file
-        result = self.log(HEADS, "--dex", self.dex, "--source-root", "app/src")["results"][0]
-        self.assertIn("byteOffset", result["locations"][0]["physicalLocation"]["region"])
+        reader = dex_listing.Reader("a b.dex", 0)
+        for line in self.LISTING.splitlines(True):
+            reader.take(line)
+        method, = reader.methods
+        self.assertEqual((method.shown(), method.proto), ("Lorg/x\\x20y/R;->run", "()V"))
+        for root, uri, region in ((None, "a%20b.dex", {"byteOffset": 0x102, "byteLength": 2}), ("src", "src/org/x%5Cx20y/R.java", {"startLine": 12})):
+            place = loaded("report-to-sarif").Writer(None, root).physical(method, 1, method.rows[1])
+            self.assertEqual((place["artifactLocation"]["uri"], place["region"]), (uri, region))
 
     @needs("dexdump")
     def test_refusal_with_its_place(self):
@@ -410,7 +460,8 @@ class Pages(Case):
     def test_what_is_said_of_a_path(self):
         page = self.page(WHOLE["leaky"], "--list", self.list, "--dex", self.dex)
         for said in ("Held since Lcom/example/leaky/Power;->take at 8: invoke-virtual {v0}, Landroid/os/PowerManager$WakeLock;.acquire:()V.",
-                     "Behind it Lcom/example/leaky/Upload;->send at 4", "activity Lcom/example/leaky/MainActivity; · resumed", "Where the code touches Lcom/example/leaky/Power;->lock"):
+                     "Behind it Lcom/example/leaky/Upload;->send at 4", "activity Lcom/example/leaky/MainActivity; · resumed",
+                     "Where the code touches Lcom/example/leaky/Power;->lock"):
             self.assertIn(said, page.text)
 
     @needs("dexdump")
@@ -451,7 +502,9 @@ class Sums(Case):
 
     def test_files_that_sums_do_not_mend(self):
         right = self.dex.read_bytes()
-        for data, said in ((b"", "no DEX file"), (right[:111], "no DEX file"), (b"PK" + right[2:], "no DEX file"), (right[:4] + b"038\0" + right[8:], "the version is 038"), (right[:-1], "cut off")):
+        for data, said in (
+                (b"", "no DEX file"), (right[:111], "no DEX file"), (b"PK" + right[2:], "no DEX file"),
+                (right[:4] + b"038\0" + right[8:], "the version is 038"), (right[:-1], "cut off")):
             with self.subTest(said):
                 status, out, _ = self.sealed(data)
                 self.assertEqual(status, 1)
@@ -471,8 +524,14 @@ class Program(Case):
         listed = run("list-from-manifest", LEAKY / "AndroidManifest.xml", "--runnables", self.dex)[1]
         self.assertEqual(self.verified([self.written("l.toml", listed), self.dex]), (2, REFUSED))
         whole = self.written("l.toml", re.sub(r"^#(\[\[|class|kind)", r"\1", listed, flags=re.M))
-        self.assertEqual(self.verified([whole, self.dex]), (1, HEADS))
-        text = (LEAKY / "app.txt").read_text().replace("failed:\nmove-exception v0\nreturn-void", "failed:\nmove-exception v0\ninvoke-static Lcom/example/leaky/Power;->drop()V\nreturn-void")
+        status, answer = self.verified([whole, self.dex])
+        heads = "".join(line for line in answer.splitlines(True) if line.startswith("report "))
+        self.assertEqual((status, heads), (1, HEADS))
+        for writer in ("report-to-sarif", "report-to-html"):
+            self.assertEqual(run(writer, "-", "--list", whole, "--dex", self.dex, given=answer.encode())[0], 0)
+        handler = "failed:\nmove-exception v0\n"
+        release = "invoke-static Lcom/example/leaky/Power;->drop()V\n"
+        text = (LEAKY / "app.txt").read_text().replace(f"{handler}return-void\n", f"{handler}{release}return-void\n")
         self.assertEqual(self.verified([whole, self.written("mended.dex", assemble.assemble(text))])[0], 0)
 
     def test_right_sums(self):
@@ -486,8 +545,9 @@ class Program(Case):
 @needs("bash")
 class Completion(Case):
     def completed(self, *words):
-        script = f'. "{tools}/completion.bash"; COMP_WORDS=({" ".join(words)}); COMP_CWORD={len(words) - 1}; [ -n "$2" ] || COMP_WORDS+=(""); _nosleep; printf "%s\\n" "${{COMPREPLY[@]}}"'
-        ran = subprocess.run(["bash", "-c", script, "bash", "x"], cwd=self.folder, capture_output=True, text=True)
+        line = f'COMP_WORDS=({" ".join(words)}); COMP_CWORD={len(words) - 1}'
+        script = f'. "{tools}/completion.bash"; {line}; _nosleep; printf "%s\\n" "${{COMPREPLY[@]}}"'
+        ran = subprocess.run(["bash", "-c", script], cwd=self.folder, capture_output=True, text=True)
         self.assertEqual(ran.stderr, "")
         return sorted(ran.stdout.split())
 
@@ -495,11 +555,11 @@ class Completion(Case):
         (self.folder / "more").mkdir()
         self.written("a.txt", "")
         for words, expected in (
-                (["nosleep", '""'], ["receiver", "verify"]), (["nosleep", "v"], ["verify"]), (["nosleep", "verify", '""'], ["list.toml", "more"]),
-                (["nosleep", "verify", "list.toml", '""'], ["leaky.dex", "more"]), (["nosleep", "verify", "list.toml", "leaky.dex", "le"], ["leaky.dex"]),
-                (["nosleep", "receiver", '""'], ["leaky.dex", "more"]), (["nosleep", "receiver", "leaky.dex", '""'], []), (["nosleep", "other", '""'], [])):
+                (['""'], ["receiver", "verify"]), (["v"], ["verify"]), (["verify", '""'], ["list.toml", "more"]),
+                (["verify", "list.toml", '""'], ["leaky.dex", "more"]), (["verify", "list.toml", "leaky.dex", "le"], ["leaky.dex"]),
+                (["receiver", '""'], ["leaky.dex", "more"]), (["receiver", "leaky.dex", '""'], []), (["other", '""'], [])):
             with self.subTest(" ".join(words)):
-                self.assertEqual(self.completed(*words), expected)
+                self.assertEqual(self.completed("nosleep", *words), expected)
 
 
 if __name__ == "__main__":
