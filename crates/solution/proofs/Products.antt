@@ -118,12 +118,12 @@ module _ (mask : ℕ) (fits : mask < 2 ^ 8) where
   pub itself_is : AreRows (Itself mask) 8 (bit_and (mask * 0x0101010101010101) 0x8040201008040201)
   itself_is = record {
     there = λ e t e8 h. (let p = mask_true mask e h.1 in let is = own_bit e e p.0 p.0 in let own = bit_at-pow_same e in
-      rw h.0 (has_from _ e e p.0 p.0 (omega arith)));
+        rw h.0 (has_from _ e e p.0 p.0 (omega arith)));
     only = λ e t h. (let p = has_true _ e t h in let is = own_bit e t p.0 p.1 in let low = bit_at-lt mask t in let high = bit_at-lt (2 ^ e) t in
-      ⊎_elim
-      (λ (same : t ≡ e). (same, rw same at (mask_from mask t p.1 (omega arith))))
-      (λ ne. absurd (let none = bit_at-pow_other e t ne in omega arith))
-      (cases_eq t e));
+        ⊎_elim
+        (λ (same : t ≡ e). (same, rw same at (mask_from mask t p.1 (omega arith))))
+        (λ ne. absurd (let none = bit_at-pow_other e t ne in omega arith))
+        (cases_eq t e));
   }
 
 -- ---- joined, one status after the other
@@ -147,6 +147,9 @@ joined_all a b n v le x = record {
   there = λ e t e8 z. (let p = (has_true a e z.0 z.1).1 in x.there e t e8 (z.0, omega arith, z.1, z.2));
   only = λ e t h. (let o = x.only e t h in (o.0, o.2, o.3));
 }
+
+pub joined_empty : (a b : ℕ) → b ≡ 0 → AreRows (Joined a b) 8 0
+joined_empty a b is = record { there = λ e t lt z. absurd (none_has z.0 t (rw is at z.2)); only = λ e t h. absurd (none_has e t h) }
 
 -- ---- what another word has not
 not_from : (x : Bool) → (x ≡ true → ⊥) → not x ≡ true

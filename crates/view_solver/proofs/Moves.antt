@@ -104,9 +104,9 @@ module _ (x : SubjectParts) (l : ℕ) where
   pub tell_none : (ms : AllMasks) (d w own rest : ℕ) (t : Facts) → AreRows (Moves x l t d) 8 w → AreRows (Itself 255) 8 own → ((e s : ℕ) → has rest e s ≡ (has w e s && not (has own e s))) → rest ≡ 0 → Turn (WholeBy x l) (Told x l d) ms ms t t false
   tell_none ms d w own rest t rows o without none =
       turn_none (WholeBy x l) (Told x l d) ms t (λ c q s u lt ne h moves. ⊎_elim
-          (λ yes. (let same = (o.only s u yes).0 in rw same h))
-          (λ off. absurd (let led = rows.there s u (view_below t c q s h) moves in none_has s u (rw none at (without s u ∙ and_not _ _ led off))))
-          (cases_Bool (has own s u)))
+      (λ yes. (let same = (o.only s u yes).0 in rw same h))
+      (λ off. absurd (let led = rows.there s u (view_below t c q s h) moves in none_has s u (rw none at (without s u ∙ and_not _ _ led off))))
+      (cases_Bool (has own s u)))
 
   pub component_turn : (ms : AllMasks) (c : ℕ) (t u v w : Facts) (p q r : Bool) → Turn (WholeBy x l) (Begun c) ms ms t u p → Turn (WholeBy x l) (Every (EdgeDone x l c)) ms ms u v q → Turn (WholeBy x l) (Told x l c) ms ms v w r → Turn (WholeBy x l) (ComponentDone x l c) ms ms t w (p || q || r)
   component_turn ms c t u v w p q r f g h =
