@@ -1,10 +1,10 @@
 -- Bits of masks and of words.
 use Rattle.std.proofs.Common.{◌≡◌, ℕ, ◌+◌, ◌*◌, ◌-◌, ◌/◌, ◌%◌, ◌^◌, ◌<◌, ◌≤◌, Bool, true, false, refl, sym, ap, ◌∙◌, ⊎_elim, arith, eqb, w8, add-zero}
 use Rattle.std.specs.Prelude.{◌&&◌, bit_or, bit_and}
-use Rattle.std.specs.Int.{bit_at}
+use Rattle.std.specs.Int.{bit_at, trailing_zeros, leading_zeros}
 use Rattle.std.proofs.lemmas.Bool.{ltb-true, lt-ltb, eqb-true, eq-eqb, and_parts, and_from, cases_eq, cases_lt}
-use Rattle.std.proofs.lemmas.Nat.{shr-shr, pow_pos}
-use Rattle.std.proofs.lemmas.Nat.Bits.{bit_at_and, bit_at-lt, bit_at-zero, bit_at_ones, bit_at_above, bit_at_cat_low, bit_at_cat_high, bit_at_set_same, bit_at_set_other}
+use Rattle.std.proofs.lemmas.Nat.{shr-shr, pow_pos, leading_length}
+use Rattle.std.proofs.lemmas.Nat.Bits.{bit_at_and, bit_at-lt, bit_at-zero, bit_at_ones, bit_at_above, bit_at_cat_low, bit_at_cat_high, bit_at_set_same, bit_at_set_other, bit_at-trailing_zeros}
 use Rattle.solution.proofs.Ors.{or_bit, or_left, or_right}
 use Rattle.std.proofs.Math.Pow.{pow_mono}
 use Rattle.std.proofs.Math.Nat.{mul-le-mul_left, mod-eq_of_lt}
@@ -114,6 +114,9 @@ mask_more part n a b x y = record {
 pub mask_end : (part : ℕ → ℕ → Type 0) (n a : ℕ) → ((k t : ℕ) → part k t → k < n) → IsMask (Below part n) a → IsMask (λ t. (k : ℕ) × part k t) a
 mask_end part n a within x = record { there = λ t z. x.there t (z.0, within _ _ z.1, z.1); only = λ t h. (let o = x.only t h in (o.0, o.2)) }
 
+pub mask_first : (part : ℕ → ℕ → Type 0) (n : ℕ) → ((k t : ℕ) → part k t → n ≤ k) → IsMask (Below part n) 0
+mask_first part n from = record { there = λ t x. absurd (let lt = x.1 in let le = from x.0 t x.2 in omega arith); only = λ t h. absurd (none_in t h) }
+
 -- rows joined, one for each number
 pub rows_none : (part : ℕ → ℕ → Type 0) → AreRows part 0 0
 rows_none part = record { there = λ k t lt x. absurd (omega arith); only = λ k t h. absurd (none_has k t h) }
@@ -134,6 +137,12 @@ rows_more part n a mask b x y z = record {
 pub mask_empty : (part : ℕ → Type 0) → ((t : ℕ) → part t → ⊥) → IsMask part 0
 mask_empty part none = record { there = λ t p. absurd (none t p); only = λ t h. absurd (none_in t h) }
 
+pub rows_first : (part : ℕ → ℕ → Type 0) (n : ℕ) → ((k t : ℕ) → part k t → n ≤ k) → AreRows part n 0
+rows_first part n from = record { there = λ k t lt x. absurd (let le = from k t x in omega arith); only = λ k t h. absurd (none_has k t h) }
+
+pub rows_last : (part : ℕ → ℕ → Type 0) (n a : ℕ) → ((k t : ℕ) → part k t → k < n) → AreRows part n a → AreRows part 8 a
+rows_last part n a within x = record { there = λ k t lt p. x.there k t (within k t p) p; only = x.only }
+
 pub rows_end : (part : ℕ → ℕ → Type 0) (n a : ℕ) → 8 ≤ n → AreRows part n a → AreRows part 8 a
 rows_end part n a le x = record { there = λ k t lt p. x.there k t (omega arith) p; only = x.only }
 
@@ -147,3 +156,16 @@ one_is e s mask word e8 m z = record {
   there = λ k t lt p. rw p.0 (z.there t (m.there t p.1));
   only = λ k t h. (let o = z.only k t h in (o.0, m.only t o.1));
 }
+
+-- the ends of a mask
+pub first_is : (mask s : ℕ) → mask < 2 ^ 8 → in_mask mask s ≡ true → trailing_zeros w8 mask ≤ s
+first_is mask s fits h =
+    let p = mask_true mask s h in
+    let some : 0 < mask = ⊎_elim (λ none. absurd (none_in s (rw none at h))) (λ ne. omega arith) (cases_eq mask 0) in
+    ⊎_elim (λ lt. absurd (let z = (bit_at-trailing_zeros w8 mask some fits).2 s lt in omega arith)) (λ le. le) (cases_lt s (trailing_zeros w8 mask))
+
+pub end_is : (mask s : ℕ) → mask < 2 ^ 8 → in_mask mask s ≡ true → s < 8 - leading_zeros w8 mask
+end_is mask s fits h =
+    let p = mask_true mask s h in
+    let len = leading_length 8 mask fits in
+    ⊎_elim (λ lt. let is = len.1 in omega arith) (λ le. absurd (let z = bit_at_above mask len.0 s len.2 le in omega arith)) (cases_lt s len.0)

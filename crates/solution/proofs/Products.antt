@@ -148,6 +148,9 @@ joined_all a b n v le x = record {
   only = λ e t h. (let o = x.only e t h in (o.0, o.2, o.3));
 }
 
+pub joined_empty : (a b : ℕ) → b ≡ 0 → AreRows (Joined a b) 8 0
+joined_empty a b is = record { there = λ e t lt z. absurd (none_has z.0 t (rw is at z.2)); only = λ e t h. absurd (none_has e t h) }
+
 -- ---- what another word has not
 not_from : (x : Bool) → (x ≡ true → ⊥) → not x ≡ true
 not_from true nay = absurd (nay refl)

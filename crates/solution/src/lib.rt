@@ -10,4 +10,6 @@ mod table;
 mod words;
 
 pub use solution::Solution;
-pub use words::{all_of, itself, join, lead, one, row_of, shifted, single, without};
+pub use words::{
+    all_of, end_of, first_of, itself, join, lead, one, row_of, shifted, single, without,
+};

@@ -1,6 +1,6 @@
 //! Masks of eight statuses, and words of eight rows of eight statuses. A word is a relation: its row e has the statuses to
 //! which e leads.
-ghost use Rattle.std.specs.Prelude.{◌≡◌, ◌<◌, ◌&&◌, ℕ, true, not};
+ghost use Rattle.std.specs.Prelude.{◌≡◌, ◌<◌, ◌≤◌, ◌&&◌, ℕ, true, not};
 ghost use Rattle.app_model.specs.Masks.{in_mask};
 ghost use Rattle.solution.specs.Words.{has, IsMask, AreRows, IsShifted, Leads, Joined, JoinedBy, Itself, IsOne};
 
@@ -16,6 +16,21 @@ fn has_status(mask: u8, status: u8) -> bool
     ensures { result ≡ in_mask mask status }
 {
     (mask >> status) & 1 == 1
+}
+
+/// No status of the mask is below it.
+pub fn first_of(mask: u8) -> u8
+    ensures { (s : ℕ) → in_mask mask s ≡ true → result ≤ s }
+{
+    mask.trailing_zeros() as u8
+}
+
+/// All statuses of the mask are below it.
+pub fn end_of(mask: u8) -> u8
+    ensures above { (s : ℕ) → in_mask mask s ≡ true → s < result }
+    ensures limit { result ≤ 8 }
+{
+    8 - mask.leading_zeros() as u8
 }
 
 /// A row of a word.
@@ -86,6 +101,9 @@ fn spread(a: u64, b: u64, status: u8) -> u64
 pub fn join(a: u64, b: u64) -> u64
     ensures { AreRows (Joined a b) 8 result }
 {
+    if b == 0 {
+        return 0;
+    }
     let mut word = 0;
     for status in 0..8u8 {
         word |= spread(a, b, status);

@@ -79,6 +79,9 @@ module _ (x : SubjectParts) (l : ℕ) where
       sure_next (InsideBy x l) (Every (ThrownTo x m i w)) (ThrownOut x m i w) (Thrown x m i w) ms ms ms a b d c q
       (λ t f g e u h. record { to = λ k n is. f k e u n h is; out = λ yes. g e u h yes })
 
+  pub throw_none : (ms : AllMasks) (m i w : ℕ) (t : Facts) → w ≡ 0 → Sure (InsideBy x l) (Thrown x m i w) ms ms t t false
+  throw_none ms m i w t is = sure_none (InsideBy x l) (Thrown x m i w) ms t (λ u more e s h. absurd (none_has e s (rw is at h)))
+
   -- I3
   pub own_thrown : (ms : AllMasks) (m i w seen asked out : ℕ) (t : Facts) → IsHere x l t m i w → AreRows (Asked ((ms x l).throws m i) seen) 8 asked → AreRows (Joined w asked) 8 out → AreThrown x l ms t m i out
   own_thrown ms m i w seen asked out t here a o = record {

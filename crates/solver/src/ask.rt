@@ -6,7 +6,7 @@ ghost use Rattle.solver.specs.Visits.{Asked, Opens};
 
 use crate::task::{Site, Task};
 use flow_model::{Rows, has_status, opens};
-use solution::{shifted, single};
+use solution::{end_of, first_of, shifted, single};
 
 fn ask_pass<R: Rows>(task: &Task, rows: &mut R, site: Site, number: u32, seen: u8, status: u8) -> u8
     requires site { IsPlace task.now.subject.now task.now.lock.0 site.method.0 site.index }
@@ -34,7 +34,7 @@ pub fn ask_passes<R: Rows>(task: &Task, rows: &mut R, site: Site, number: u32, s
     ensures same { R.masks rows.new ≡ R.masks rows.old }
 {
     let mut word = 0;
-    for status in 0..8u8 {
+    for status in first_of(seen)..end_of(seen) {
         let mask = ask_pass(task, rows, site, number, seen, status);
         word |= shifted(mask, status);
     }
@@ -60,7 +60,7 @@ pub fn ask_throws<R: Rows>(task: &Task, rows: &mut R, site: Site, seen: u8) -> u
     ensures same { R.masks rows.new ≡ R.masks rows.old }
 {
     let mut word = 0;
-    for status in 0..8u8 {
+    for status in first_of(seen)..end_of(seen) {
         let mask = ask_throw(task, rows, site, seen, status);
         word |= shifted(mask, status);
     }
@@ -87,7 +87,7 @@ pub fn open_mask(task: &Task, site: Site, seen: u8) -> u8
     ensures { IsMask (λ t. (s : ℕ) × Opens task.now.subject.now task.now.lock.0 site.method.0 site.index seen s t) result }
 {
     let mut mask = 0;
-    for status in 0..8u8 {
+    for status in first_of(seen)..end_of(seen) {
         mask |= open_one(task, site, seen, status);
     }
     mask

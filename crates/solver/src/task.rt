@@ -4,9 +4,10 @@ ghost use Rattle.app_model.specs.Subject.{callees_at};
 ghost use Rattle.app_model.specs.Words.{code_len, successor_at, handler_at, leaves_at};
 ghost use Rattle.flow_model.specs.Subject.{returns_at};
 ghost use Rattle.solver.specs.Turns.{IsPlace};
+ghost use Rattle.solver.specs.Returns.{returns};
 
-use act_model::{Act, act_of};
 use app_model::Subject;
+use dalvik::Ins;
 use ns_base::{LockNo, MethodNo};
 
 /// A subject and one of its locks.
@@ -73,15 +74,14 @@ impl Task<'_> {
         subject.app.may_leave(site.method, site.index)
     }
 
+    #[tactic(auto, unfolding(act_model::specs::Acts::act_at))]
     pub fn returns(&self, site: Site) -> bool
         requires { IsPlace self.now.subject.now self.now.lock.0 site.method.0 site.index }
         ensures { result ≡ returns_at self.now.subject.now site.method.0 site.index }
     {
         let subject = self.subject;
-        match act_of(&subject.app, site.method, site.index) {
-            Act::Return { .. } => true,
-            _ => false,
-        }
+        let (_, ins) = subject.app.ins(site.method, site.index);
+        is_return(&ins)
     }
 
     pub fn callees(&self, site: Site) -> &[MethodNo]
@@ -90,4 +90,11 @@ impl Task<'_> {
     {
         self.subject.callees(site.method, site.index)
     }
+}
+
+// No other instruction returns.
+fn is_return(ins: &Ins) -> bool
+    ensures { result ≡ returns ins.now }
+{
+    matches!(ins, Ins::ReturnVoid | Ins::Return { .. })
 }

@@ -51,6 +51,9 @@ pub fn throw_all(task: &Task, solution: &mut Solution, site: Site, thrown: u64) 
     ensures turn { WhereThrown task.now.subject.now task.now.lock.0 site.method.0 site.index thrown (Thrown task.now.subject.now site.method.0 site.index thrown) solution.old solution.new result }
     ensures size { SameSize solution.old solution.new }
 {
+    if thrown == 0 {
+        return false;
+    }
     let to = throw_to_all(task, solution, site, thrown);
     let out = throw_out(task, solution, site, thrown);
     to | out

@@ -115,7 +115,7 @@ pub fn visit<R: Rows>(
     passed | called
 }
 
-/// Leads on what is new at an instruction, and tells whether something is.
+/// Leads on what is new at an instruction, and tells whether a fact came.
 pub fn lead_new<R: Rows>(
     task: &Task,
     rows: &mut R,
@@ -132,7 +132,8 @@ pub fn lead_new<R: Rows>(
     if fresh == 0 {
         return false;
     }
-    lead_on(task, rows, solution, site, fresh);
-    call_all(task, solution, site, fresh);
-    led.join_at(site.method, site.index, fresh)
+    let passed = lead_on(task, rows, solution, site, fresh);
+    let called = call_all(task, solution, site, fresh);
+    led.join_at(site.method, site.index, fresh);
+    passed | called
 }

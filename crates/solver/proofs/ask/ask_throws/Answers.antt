@@ -1,9 +1,9 @@
 use Rattle.std.proofs.Common.{refl, ◌∙◌, arith}
-use Rattle.solution.proofs.Bits.{rows_none, rows_more, rows_end}
+use Rattle.solution.proofs.Bits.{rows_first, rows_more, rows_last}
 use Rattle.solver.proofs.ask.ask_throws.Goals as goal
 
 pub loop-status-init : goal.loop-status-init
-loop-status-init g c = record { masks = rows_none _; same = refl }
+loop-status-init g c = record { masks = rows_first _ _ (λ k t p. c.first_of-status.ensures k p.0); same = refl }
 
 pub loop-status-preserved : goal.loop-status-preserved
 loop-status-preserved g c = record {
@@ -12,7 +12,7 @@ loop-status-preserved g c = record {
 }
 
 pub returns-clause-masks : goal.returns-clause-masks
-returns-clause-masks g c = rows_end _ _ _ (omega (arith, c.loop-status-test.false)) c.loop-status.invariant.masks
+returns-clause-masks g c = rows_last _ _ _ (λ k t p. let less = c.end_of-status-end.ensures.above k p.0 in omega (arith, less, c.loop-status-test.false)) c.loop-status.invariant.masks
 
 pub returns-clause-same : goal.returns-clause-same
 returns-clause-same g c = c.loop-status.invariant.same

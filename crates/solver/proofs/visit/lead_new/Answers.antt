@@ -8,11 +8,11 @@ at_word-word-requires g c = place_in _ _ _ _ _ _ c.requires.place c.requires.pla
 pub at_word-requires : goal.at_word-requires
 at_word-requires g c = place_in _ _ _ _ _ _ (led_place _ _ _ _ _ _ c.requires.led.places c.requires.place) c.requires.place.place.index
 
-pub lead_on-requires : goal.lead_on-requires
-lead_on-requires g c = rest_here _ _ _ _ _ _ _ _ c.without-fresh.ensures (at_read _ _ _ _ _ _ c.requires.place c.at_word-word.ensures)
+pub lead_on-passed-requires : goal.lead_on-passed-requires
+lead_on-passed-requires g c = rest_here _ _ _ _ _ _ _ _ c.without-fresh.ensures (at_read _ _ _ _ _ _ c.requires.place c.at_word-word.ensures)
 
-pub call_all-requires : goal.call_all-requires
-call_all-requires g c = here_after _ _ _ _ _ _ _ _ _ _ _ c.lead_on.ensures.turn (rest_here _ _ _ _ _ _ _ _ c.without-fresh.ensures (at_read _ _ _ _ _ _ c.requires.place c.at_word-word.ensures))
+pub call_all-called-requires : goal.call_all-called-requires
+call_all-called-requires g c = here_after _ _ _ _ _ _ _ _ _ _ _ c.lead_on-passed.ensures.turn (rest_here _ _ _ _ _ _ _ _ c.without-fresh.ensures (at_read _ _ _ _ _ _ c.requires.place c.at_word-word.ensures))
 
 pub join_at-requires : goal.join_at-requires
 join_at-requires g c = place_in _ _ _ _ _ _ (led_place _ _ _ _ _ _ c.requires.led.places c.requires.place) c.requires.place.place.index
@@ -21,4 +21,4 @@ pub returns-then-fresh-eq0 : goal.returns-then-fresh-eq0
 returns-then-fresh-eq0 g c = nears_none _ _ _ _ _ c.requires.led
 
 pub returns : goal.returns
-returns g c = nears_led _ _ _ _ _ _ _ _ _ _ _ _ _ _ _ _ c.requires.led c.join_at.ensures c.lead_on.ensures (c.call_all.ensures _)
+returns g c = nears_led _ _ _ _ _ _ _ _ _ _ _ _ _ _ _ _ c.requires.led c.join_at.ensures c.lead_on-passed.ensures (c.call_all-called.ensures _)
