@@ -1,10 +1,18 @@
 -- What parts of one instruction's work come to.
-use Rattle.std.proofs.Common.{◌≡◌, ℕ, Bool, true, false, Option, Some, None, refl, sym, ap, ◌∙◌, subst}
+use Rattle.std.proofs.Common.{◌≡◌, ℕ, Bool, true, false, Option, Some, None, List, [], length, refl, sym, ap, ◌∙◌, subst, arith}
 use Rattle.std.specs.Prelude.{◌&&◌, ◌||◌, not}
 use Rattle.std.proofs.lemmas.Bool.{false≢true}
 use Rattle.ns_base.specs.declared.rows.MethodNo.{MethodNo}
 use Rattle.dalvik.specs.declared.ins.Args.{Args}
+use Rattle.dalvik.specs.declared.ins.Ins.{Ins}
+use Rattle.dalvik.specs.declared.ins.Ins.TheVariants as ins
+use Rattle.app_model.specs.CallGraph.{TargetParts}
+use Rattle.app_model.specs.LockUse.{invoke_of}
+use Rattle.app_model.specs.Parts.{AppParts}
 use Rattle.app_model.specs.TagTable.{row_at, tag_at}
+use Rattle.app_model.specs.Targets.{targets_by, targets_in}
+use Rattle.app_model.specs.Words.{ins_at, named_at}
+use Rattle.act_model.specs.Acts.{act_at, act_by, act_of}
 use Rattle.app_model.specs.declared.calls.By.{By}
 use Rattle.app_model.specs.declared.lock_use.LockUse.{LockUse}
 use Rattle.act_model.specs.Changes.{tag_in}
@@ -16,10 +24,10 @@ use Rattle.act_model.specs.declared.act.Returned.{Returned}
 use Rattle.flow_model.specs.TagFlow.{is_call, leads_on}
 use Rattle.tag_flow.specs.declared.calling.Handing.{Handing}
 use Rattle.tag_rows.specs.declared.change.Change.TheVariants.{After}
-use Rattle.tag_flow.specs.Known.{KnownParts}
+use Rattle.tag_flow.specs.Known.{IsKnown, KnownParts}
 use Rattle.tag_flow.specs.State.{StateParts}
 use Rattle.tag_flow.specs.Turns.{IsSite, Turn, goes_by_itself, handing_of, returned_of}
-use Rattle.tag_flow.specs.Goals.{AllSucceeded, Entered, RowPassed, WentOn, entering_row}
+use Rattle.tag_flow.specs.Goals.{AllSucceeded, Called, Entered, RowPassed, WentOn, entering_row}
 use Rattle.tag_flow.proofs.Turns.{turn_as}
 
 pub goes_not : (a : Act) (outside : Bool) → false ≡ goes_by_itself a outside → leads_on a ≡ true → (is_call a ≡ true → outside ≡ true) → ⊥
@@ -66,3 +74,20 @@ no_answer a none answer is = (let both : None ≡ Some answer = none ∙ ap retu
 pub answer_return : (a : Act) (answer : Returned) → Some answer ≡ returned_of a → a ≡ Return answer
 answer_return (Return other) answer e = (let same : other ≡ answer = cc in ap Return same)
 answer_return _ answer e = absurd (cc)
+
+-- ---- an act that is no call calls nothing, one that is no return gives nothing back, and a return does nothing else
+no_invoke : (app : AppParts) (m i : ℕ) (own : Ins) → is_call (act_of app m i own) ≡ false → invoke_of (Some own) ≡ None
+no_invoke app m i (ins.Invoke op method arguments) off = absurd (cc)
+no_invoke app m i _ off = refl
+
+pub calls_nothing : (k : KnownParts) → IsKnown k → (m i : ℕ) (a : Act) → act_at k.app m i ≡ Some a → is_call a ≡ false → (s : StateParts) → Called k m i a s
+unfolding act_at targets_in
+calls_nothing k known m i a is off s n there = absurd (let none = ap (λ (t : TargetParts). t.callees) (known.graph.rows m i) ∙ go (ins_at k.app m i) is in omega (arith, there.1, ap length none))
+  where
+    go : (own : Option Ins) → act_by k.app m i own ≡ Some a → (targets_by k.app m (invoke_of own) (named_at k.app m i)).callees ≡ []
+    go None e = absurd (cc)
+    go (Some own) e = (let same : act_of k.app m i own ≡ a = cc in rw (no_invoke k.app m i own (ap is_call same ∙ off)) refl)
+
+pub not_call : (a : Act) → ((how : By) (usage : LockUse) (arguments : Args) (gives : Gives) → a ≡ Call how usage arguments gives → ⊥) → is_call a ≡ false
+not_call (Call how usage arguments gives) differs = absurd (differs how usage arguments gives refl)
+not_call _ differs = refl

@@ -19,6 +19,7 @@ pub(crate) struct Step {
 }
 
 // One cell, by its tag.
+#[inline(never)]
 fn pass_tag(known: &Known, state: &mut State, step: &Step, register: usize) -> bool
     requires step { IsStep known.now state.old step.now }
     requires register { register < step.now.from.width }
@@ -102,6 +103,7 @@ fn pass_to(known: &Known, state: &mut State, from: Spot, change: Change, to: u32
 }
 
 /// A change to each successor.
+#[inline(always)]
 pub(crate) fn to_successors(known: &Known, state: &mut State, from: Spot, change: Change) -> bool
     requires source { IsSource known.now state.old from }
     requires leads { (x j : ℕ) → successor_at known.now.app from.method.0 from.index x ≡ Some j → Leads known.now from.method.0 from.index j change }
@@ -119,6 +121,7 @@ pub(crate) fn to_successors(known: &Known, state: &mut State, from: Spot, change
 }
 
 /// A change to each handler.
+#[inline(always)]
 pub(crate) fn to_handlers(known: &Known, state: &mut State, from: Spot, change: Change) -> bool
     requires source { IsSource known.now state.old from }
     requires leads { (x j : ℕ) → handler_at known.now.app from.method.0 from.index x ≡ Some j → Leads known.now from.method.0 from.index j change }

@@ -43,12 +43,12 @@ fn can_throw(act: &Act) -> bool
 }
 
 // Whether an act leads on by itself; a call where it leads outside.
-fn goes_by_itself(act: &Act, outside: bool) -> bool
-    ensures { result ≡ goes_by_itself act.now outside }
+fn goes_by_itself(known: &Known, from: Spot, act: &Act) -> bool
+    ensures { result ≡ goes_by_itself act.now (outside_at known.now.graph from.method.0 from.index) }
 {
     match *act {
         Act::Throw { .. } | Act::Return { .. } => false,
-        Act::Call { .. } => outside,
+        Act::Call { .. } => known.outside(from),
         _ => true,
     }
 }
@@ -58,7 +58,7 @@ fn go_on(known: &Known, state: &mut State, from: Spot, act: Act) -> bool
     requires act { act_at known.now.app from.method.0 from.index ≡ Some act }
     ensures { Turn known.now (WentOn known.now from.method.0 from.index act) state.old state.new result }
 {
-    if !goes_by_itself(&act, known.outside(from)) {
+    if !goes_by_itself(known, from, &act) {
         return false;
     }
     let site = known.site(from, &act);
@@ -86,14 +86,29 @@ fn go_or_throw(known: &Known, state: &mut State, from: Spot, act: Act) -> bool
     on | thrown
 }
 
-fn call_or_return(known: &Known, state: &mut State, from: Spot, act: Act) -> bool
+// A call of some callee can come back, and a call gives nothing back by itself.
+fn call_and_go(known: &Known, state: &mut State, from: Spot, act: Act) -> bool
     requires source { IsSource known.now state.old from }
     requires act { act_at known.now.app from.method.0 from.index ≡ Some act }
-    ensures { Turn known.now (λ s. Called known.now from.method.0 from.index act s × GaveBack known.now from.method.0 from.index act s) state.old state.new result }
+    ensures { Turn known.now (λ s. (WentOn known.now from.method.0 from.index act s × Threw known.now from.method.0 from.index act s) × Called known.now from.method.0 from.index act s) state.old state.new result }
 {
+    let gone = go_or_throw(known, state, from, act);
     let called = call(known, state, from, act);
-    let back = give_back(known, state, from, act);
-    called | back
+    gone | called
+}
+
+// By what the act is: most are no calls, and call nothing.
+fn visit_live(known: &Known, state: &mut State, spot: Spot) -> bool
+    requires source { IsSource known.now state.old spot }
+    ensures { Turn known.now (IsVisited known.now spot.method.0 spot.index) state.old state.new result }
+{
+    known.told();
+    let act = known.act(spot);
+    match act {
+        Act::Call { .. } => call_and_go(known, state, spot, act),
+        Act::Return { .. } => give_back(known, state, spot, act),
+        _ => go_or_throw(known, state, spot, act),
+    }
 }
 
 /// All that flows from an instruction.
@@ -102,12 +117,8 @@ pub(crate) fn visit(known: &Known, state: &mut State, spot: Spot) -> bool
     requires spot { IsSpot known.now spot }
     ensures { Turn known.now (IsVisited known.now spot.method.0 spot.index) state.old state.new result }
 {
-    known.told();
     if !state.is_live(known, spot) {
         return false;
     }
-    let act = known.act(spot);
-    let gone = go_or_throw(known, state, spot, act);
-    let called = call_or_return(known, state, spot, act);
-    gone | called
+    visit_live(known, state, spot)
 }

@@ -43,6 +43,7 @@ fn is_kept(kept: Kept, cell: u16) -> bool
 }
 
 // The slow way, by the tags.
+#[inline(never)]
 fn join_tags(cells: &mut [u16], place: usize, cell: u16) -> bool
     requires place { place < length cells.old }
     requires fits { cell < cell_count }
@@ -61,6 +62,7 @@ fn join_tags(cells: &mut [u16], place: usize, cell: u16) -> bool
 }
 
 /// Joins the tag of a cell into another cell.
+#[inline(always)]
 pub(crate) fn join_cell(cells: &mut [u16], place: usize, cell: u16) -> bool
     requires place { place < length cells.old }
     requires fits { cell < cell_count }
