@@ -1,0 +1,6 @@
+pub mod Sets
+pub mod Shape
+pub mod Broken
+pub mod Verdict
+pub mod Rows
+pub mod Cases
