@@ -6,4 +6,5 @@ pub mod HierarchyLaws
 pub mod Invokes
 pub mod ReachLaws
 pub mod Searches
+pub mod ShownBytes
 pub mod TypeIndex

@@ -8,6 +8,8 @@ pub mod Sites
 pub mod Hierarchy
 pub mod Index
 pub mod Slots
+pub mod Shown
+pub mod Sought
 pub mod Components
 pub mod CallGraph
 pub mod Targets

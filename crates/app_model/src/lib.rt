@@ -3,6 +3,7 @@
 //! - `rows` and `app` are the linked application, read through accessors.
 //! - `names` spells types, names and prototypes.
 //! - `lock_use` and `slots` tell calls and fields of wake locks apart from others.
+//! - `shown` writes names as they are printed.
 //! - `component` has the components and their lifecycles.
 //! - `hierarchy` has the classes of types, and those above them.
 //! - `laws` has what holds of every application and call graph.
@@ -20,6 +21,7 @@ mod laws;
 mod lock_use;
 mod names;
 mod rows;
+mod shown;
 mod slots;
 mod subject;
 mod tag;
@@ -33,6 +35,7 @@ pub use laws::{hierarchy_law, reach_law};
 pub use lock_use::LockUse;
 pub use names::{POWER_MANAGER, STRING, WAKE_LOCK};
 pub use rows::{AppRows, ClassRow, FieldRow, MethodRow, Named, NamedField, Operand, ProtoRow};
+pub use shown::{push_member, push_shown};
 pub use subject::Subject;
 pub use tag::Tag;
 pub use tag_table::TagTable;

@@ -1,9 +1,10 @@
 //! All that is said of an application, as the rules read it.
-ghost use Rattle.std.specs.Prelude.{◌≡◌, ◌<◌, ◌≤◌, length, true, option_map, IfSome};
+ghost use Rattle.std.specs.Prelude.{◌≡◌, ◌<◌, ◌≤◌, length, true, option_map, slice_get, IfSome};
 ghost use Rattle.std.specs.List.{All};
 ghost use Rattle.app_model.specs.CallGraph.{AreRising};
 ghost use Rattle.app_model.specs.Subject.{IsSubject, IsEnterable, slot_count, is_reached, callees_at, answers_at, owner_at};
 ghost use Rattle.app_model.specs.Components.{callback_at};
+ghost use Rattle.app_model.specs.Shown.{lock_text};
 ghost use Rattle.ns_base.specs.declared.rows.ComponentNo.{ComponentNo};
 ghost use Rattle.ns_base.specs.declared.rows.MethodNo.{MethodNo};
 
@@ -98,6 +99,15 @@ impl Subject {
         ensures entered { All (λ (n : MethodNo). IsEnterable self.now n.0) result.now }
     {
         self.graph.callees(method, index)
+    }
+
+    /// A byte of the name of a lock as it is shown, `CLASS->FIELD`; none from the length of the name on.
+    #[tactic(auto, unfolding(crate::specs::Subject::slot_count))]
+    pub fn lock_byte(&self, lock: LockNo, at: u32) -> Option<u8>
+        requires { lock.0 < slot_count self.now }
+        ensures { result ≡ slice_get (lock_text self.now.app lock.0) at }
+    {
+        self.app.lock_byte(lock, at)
     }
 
     /// Whether a component answers for a lock.

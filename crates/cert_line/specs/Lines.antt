@@ -2,7 +2,7 @@
 use Rattle.std.specs.Prelude.{ℕ, ◌≡◌, ◌<◌, ◌^◌, Bool, List, [], ◌∷◌, ◌++◌, length, nat_lt, ◌&&◌, ◌||◌, codes, decimal, IsTrue}
 use Rattle.std.specs.List.{join_with_byte, list_any, list_all, AllByRecursion}
 use Rattle.cert_line.specs.Fields.{hex_byte, hex_bytes, status_name}
-use Rattle.cert_line.specs.Parts.{BodyParts}
+use Rattle.cert_line.specs.Parts.{BodyParts, NameParts}
 use Rattle.cert_line.specs.declared.rows.Line.{Line}
 use Rattle.cert_line.specs.declared.rows.Line.TheVariants.{Version, ListDigest, DexDigest, Lock, View, Body, End}
 
@@ -14,6 +14,9 @@ fields_of (Lock n) = codes "lock" ∷ decimal n.number ∷ n.shown ∷ []
 fields_of (View v) = codes "view" ∷ decimal v.component ∷ decimal v.state ∷ hex_byte v.mask ∷ []
 fields_of (Body b) = codes "body" ∷ decimal b.method ∷ status_name b.entry ∷ hex_byte b.ret ∷ hex_byte b.exc ∷ hex_bytes b.masks ∷ []
 fields_of End = codes "end" ∷ []
+
+abbrev pub name_line : ℕ → List ℕ → Line
+name_line k shown = Lock (record { number = k; shown = shown })
 
 -- a space between two fields, and no line feed
 unfoldable pub spelled : Line → List ℕ

@@ -1,15 +1,12 @@
 -- The text of a certificate.
 use Rattle.std.specs.Prelude.{ℕ, suc, ◌+◌, ◌*◌, ◌^◌, ◌<◌, ◌≤◌, List, [], ◌∷◌, ◌++◌, map, length, flat_map}
 use Rattle.std.specs.List.{AllByRecursion}
-use Rattle.cert_line.specs.Lines.{Fits, with_feed}
-use Rattle.cert_line.specs.Parts.{BodyParts, NameParts}
+use Rattle.cert_line.specs.Lines.{Fits, name_line, with_feed}
+use Rattle.cert_line.specs.Parts.{BodyParts}
 use Rattle.cert_line.specs.declared.rows.ViewRow.{ViewRow}
 use Rattle.cert_line.specs.declared.rows.Line.{Line}
-use Rattle.cert_line.specs.declared.rows.Line.TheVariants.{Version, ListDigest, DexDigest, Lock, View, Body, End}
+use Rattle.cert_line.specs.declared.rows.Line.TheVariants.{Version, ListDigest, DexDigest, View, Body, End}
 use Rattle.certificate.specs.Parts.{LockRows, CertParts}
-
-abbrev pub name_line : ℕ → List ℕ → Line
-name_line k shown = Lock (record { number = k; shown = shown })
 
 abbrev pub lock_lines : ℕ → List LockRows → List Line
 lock_lines k [] = []

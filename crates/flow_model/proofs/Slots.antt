@@ -46,27 +46,28 @@ slot_below app m i l is = by (is_object_access (ins_at app m i)) is
     by false is = cc
 
 -- ---- the lock field that an act stores to
-abbrev stored_slot : Act → Option ℕ
+abbrev pub stored_slot : Act → Option ℕ
 stored_slot (WriteSlot from l when) = Some l.0
 stored_slot _ = None
 
-either_stores : (b : Bool) (x y : Act) (o : Option ℕ) → stored_slot x ≡ o → stored_slot y ≡ o → stored_slot (if b then x else y) ≡ o
-either_stores true x y o a b = a
-either_stores false x y o a b = b
+-- two acts of which one is chosen, and what is the same of both
+pub either_same : {A : Type 0} (f : Act → A) (b : Bool) (x y : Act) (o : A) → f x ≡ o → f y ≡ o → f (if b then x else y) ≡ o
+either_same f true x y o a b = a
+either_same f false x y o a b = b
 
-reads_none : (to : ℕ) (slot : Option ℕ) (op : ℕ) (when : Throws) → stored_slot (read_act to slot op when) ≡ None
+pub reads_none : (to : ℕ) (slot : Option ℕ) (op : ℕ) (when : Throws) → stored_slot (read_act to slot op when) ≡ None
 reads_none to None op when = refl
 reads_none to (Some l) op when = refl
 
-writes_slot : (from : ℕ) (slot : Option ℕ) (when : Throws) → stored_slot (write_act from slot when) ≡ slot
+pub writes_slot : (from : ℕ) (slot : Option ℕ) (when : Throws) → stored_slot (write_act from slot when) ≡ slot
 writes_slot from None when = refl
 writes_slot from (Some l) when = refl
 
 act_stores : (app : AppParts) (m i : ℕ) (own : Ins) (l : ℕ) → stored_slot (act_of app m i own) ≡ Some l → slot_at app m i ≡ Some l
-act_stores app m i (ins.MoveResult op to) l is = let none = either_stores (op == MOVE_RESULT_WIDE) (Write to written.Pair Never) (TakeResult to) None refl refl in cc
-act_stores app m i (ins.Monitor op object) l is = let none = either_stores (op == MONITOR_ENTER) (Check (WhereZero object)) Go None refl refl in cc
+act_stores app m i (ins.MoveResult op to) l is = let none = either_same stored_slot (op == MOVE_RESULT_WIDE) (Write to written.Pair Never) (TakeResult to) None refl refl in cc
+act_stores app m i (ins.Monitor op object) l is = let none = either_same stored_slot (op == MONITOR_ENTER) (Check (WhereZero object)) Go None refl refl in cc
 act_stores app m i (ins.IfZero op value offset) l is =
-    let none = either_stores (op == IF_EQZ) (Test value 1) (if op == IF_NEZ then Test value 0 else Go) None refl (either_stores (op == IF_NEZ) (Test value 0) Go None refl refl) in cc
+    let none = either_same stored_slot (op == IF_EQZ) (Test value 1) (if op == IF_NEZ then Test value 0 else Go) None refl (either_same stored_slot (op == IF_NEZ) (Test value 0) Go None refl refl) in cc
 act_stores app m i (ins.FieldGet op to object field) l is = let none = reads_none to (slot_at app m i) op (WhereZero object) in cc
 act_stores app m i (ins.FieldPut op value object field) l is = sym (writes_slot value (slot_at app m i) (WhereZero object)) ∙ is
 act_stores app m i (ins.StaticGet op to field) l is = let none = reads_none to (slot_at app m i) op Never in cc

@@ -7,9 +7,10 @@ use Rattle.app_model.specs.declared.rows.FieldRow.{FieldRow}
 use Rattle.app_model.specs.Components.{ComponentParts}
 use Rattle.app_model.specs.Names.{name_text, type_text, wake_lock_name}
 use Rattle.app_model.specs.Parts.{AppParts}
+use Rattle.app_model.specs.Shown.{lock_text}
 use Rattle.app_model.specs.Slots.{class_text}
 use Rattle.flow_model.specs.declared.policy.Violation.{Violation}
-use Rattle.report_text.specs.Heads.{callback_text, head_text, heads_text, lock_text}
+use Rattle.report_text.specs.Heads.{callback_text, head_text, heads_text}
 
 abbrev lock_field : (name : ℕ) → FieldRow
 lock_field name = record { class = record { 0 = 0 }; name = record { 0 = name }; kind = record { 0 = 1 }; flags = 8 }

@@ -1,13 +1,11 @@
 -- The heads of the reports: a line for each violation.
 use Rattle.std.specs.Prelude.{ℕ, zero, suc, List, [], ◌∷◌, ◌++◌, length, Option, Some, None, slice_get, slice_index_or, codes, decimal}
-use Rattle.ns_base.specs.declared.rows.FieldNo.{FieldNo}
-use Rattle.app_model.specs.declared.rows.FieldRow.{FieldRow}
 use Rattle.app_model.specs.Parts.{AppParts}
-use Rattle.app_model.specs.Names.{name_text}
+use Rattle.app_model.specs.Shown.{lock_text, member_text}
 use Rattle.app_model.specs.Slots.{class_text}
 use Rattle.app_model.specs.Components.{ComponentParts, callbacks_of}
 use Rattle.flow_model.specs.declared.policy.Violation.{Violation}
-use Rattle.report_text.specs.Texts.{line, shown}
+use Rattle.report_text.specs.Texts.{line}
 
 abbrev pub status_names : List (List ℕ)
 status_names =
@@ -15,22 +13,6 @@ status_names =
 
 abbrev pub status_name : ℕ → List ℕ
 status_name s = slice_index_or status_names s []
-
--- CLASS->NAME
-abbrev pub member_text : List ℕ → List ℕ → List ℕ
-member_text class name = shown class ++ codes "->" ++ shown name
-
-abbrev pub field_text : AppParts → Option FieldRow → List ℕ
-field_text app None = []
-field_text app (Some field) = member_text (class_text app field.class.0) (name_text app field.name.0)
-
-abbrev pub field_of : AppParts → Option FieldNo → Option FieldRow
-field_of app None = None
-field_of app (Some f) = slice_get app.fields f.0
-
--- a lock field
-unfoldable pub lock_text : AppParts → ℕ → List ℕ
-lock_text app l = field_text app (field_of app (slice_get app.locks l))
 
 abbrev pub callback_of : AppParts → Option ComponentParts → ℕ → List ℕ
 callback_of app None k = []

@@ -3,7 +3,8 @@ use Rattle.std.specs.Prelude.{ℕ, List, [], ◌∷◌, ◌++◌, codes}
 use Rattle.app_link.specs.declared.link_fault.LinkFault.{LinkFault}
 use Rattle.app_link.specs.declared.link_fault.LinkFault.TheVariants.{DuplicateClass, CodeMissing, CodeUnwanted, SuperCycle, Limit, Memory}
 use Rattle.report_text.specs.Numbers.{numbers_text}
-use Rattle.report_text.specs.Texts.{line, shown}
+use Rattle.app_model.specs.Shown.{shown}
+use Rattle.report_text.specs.Texts.{line}
 
 -- what is wrong, and the name of the class that comes a second time
 abbrev pub link_fault_head : (name : List ℕ) → LinkFault → List ℕ

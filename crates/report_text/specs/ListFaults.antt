@@ -3,7 +3,8 @@ use Rattle.std.specs.Prelude.{ℕ, List, [], ◌∷◌, ◌++◌, codes}
 use Rattle.component_list.specs.declared.fault.ListFault.{ListFault}
 use Rattle.component_list.specs.declared.fault.ListFault.TheVariants.{Text, Key, Kind, EmptyExits, ExitName, Twice, NoClass, NoCallback, Limit, Memory}
 use Rattle.report_text.specs.Numbers.{numbers_text}
-use Rattle.report_text.specs.Texts.{line, shown}
+use Rattle.app_model.specs.Shown.{shown}
+use Rattle.report_text.specs.Texts.{line}
 
 abbrev pub list_fault_name : ListFault → List ℕ
 list_fault_name Text = codes "Text"

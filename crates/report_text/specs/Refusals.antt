@@ -1,8 +1,8 @@
 -- The refusal of an application that is out of scope.
 use Rattle.std.specs.Prelude.{ℕ, List, [], ◌∷◌, ◌++◌, codes, decimal}
+use Rattle.app_model.specs.Shown.{member_text}
 use Rattle.scope_check.specs.declared.scoping.ScopeFault.{ScopeFault}
 use Rattle.scope_check.specs.declared.scoping.ScopeFault.TheVariants.{Rule, Memory}
-use Rattle.report_text.specs.Heads.{member_text}
 use Rattle.report_text.specs.Numbers.{numbers_text}
 use Rattle.report_text.specs.Texts.{line}
 

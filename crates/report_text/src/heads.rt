@@ -2,12 +2,12 @@
 ghost use Rattle.std.specs.Prelude.{◌≡◌, ◌<◌, ◌+◌, ◌++◌, length, slice_get, slice_index_or, codes, IfOk, []};
 ghost use Rattle.app_model.specs.Components.{callbacks_of};
 ghost use Rattle.report_text.specs.Heads as spec;
-ghost use Rattle.report_text.specs.Heads.{callback_text, field_text, head_text, heads_before, lock_text, member_text, no_violation, status_name};
+ghost use Rattle.report_text.specs.Heads.{callback_text, head_text, heads_before, no_violation, status_name};
 
 use crate::numbers::push_decimal;
-use crate::texts::push_shown;
-use app_model::{App, ComponentRow, FieldRow, Kind};
+use app_model::{App, ComponentRow, Kind, push_member};
 use flow_model::Violation;
+use ns_base::LockNo;
 use std::alloc::{AllocError, Global};
 
 /// A line for each violation, in their order.
@@ -44,53 +44,13 @@ fn push_head(
     text.extend_from_slice(b" of ")?;
     push_decimal(alloc, text, violations.len())?;
     text.extend_from_slice(b": ")?;
-    push_lock(text, app, violation.lock)?;
+    app.push_lock(text, LockNo(violation.lock))?;
     text.extend_from_slice(b" is ")?;
     text.extend_from_slice(name_of_status(violation.status))?;
     text.extend_from_slice(b" after ")?;
     push_callback(text, app, list, violation.component, violation.callback)?;
     text.push(b'\n')?;
     Ok(())
-}
-
-/// Adds CLASS->NAME, shown.
-pub fn push_member(text: &mut Vec<u8>, class: &[u8], name: &[u8]) -> Result<(), AllocError>
-    ensures { IfOk result (λ _. text.new.items ≡ text.old.items ++ member_text class.now name.now) }
-{
-    push_shown(text, class)?;
-    text.extend_from_slice(b"->")?;
-    push_shown(text, name)?;
-    Ok(())
-}
-
-fn push_field(text: &mut Vec<u8>, app: &App, field: Option<FieldRow>) -> Result<(), AllocError>
-    ensures { IfOk result (λ _. text.new.items ≡ text.old.items ++ field_text app.now field) }
-{
-    match field {
-        Some(field) => push_member(text, app.class_text(field.class), app.name_text(field.name)),
-        None => Ok(()),
-    }
-}
-
-#[tactic(auto, unfolding(crate::specs::Heads::lock_text))]
-fn push_lock(text: &mut Vec<u8>, app: &App, lock: u32) -> Result<(), AllocError>
-    ensures { IfOk result (λ _. text.new.items ≡ text.old.items ++ lock_text app.now lock) }
-{
-    push_field(text, app, field_of(app, lock))
-}
-
-// The row of a lock field.
-fn field_of(app: &App, lock: u32) -> Option<FieldRow>
-    ensures { result ≡ spec.field_of app.now (slice_get app.now.locks lock) }
-{
-    let Some(field) = app.locks().get(lock as usize) else {
-        return None;
-    };
-    if field.0 < app.field_count() {
-        Some(*app.field(*field))
-    } else {
-        None
-    }
 }
 
 #[tactic(auto, unfolding(crate::specs::Heads::callback_text))]

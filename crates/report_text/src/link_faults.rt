@@ -2,10 +2,10 @@
 ghost use Rattle.std.specs.Prelude.{◌≡◌, ◌++◌, codes, IfOk};
 ghost use Rattle.report_text.specs.LinkFaults.{bad_link_text, link_fault_head, link_fault_numbers};
 ghost use Rattle.report_text.specs.Numbers.{numbers_text};
-ghost use Rattle.report_text.specs.Texts.{shown};
+ghost use Rattle.app_model.specs.Shown.{shown};
 
 use crate::numbers::push_numbers;
-use crate::texts::push_shown;
+use app_model::push_shown;
 use app_link::LinkFault;
 use std::alloc::{AllocError, Global};
 

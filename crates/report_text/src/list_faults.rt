@@ -4,7 +4,7 @@ ghost use Rattle.report_text.specs.ListFaults.{bad_list_text, list_fault_key, li
 ghost use Rattle.report_text.specs.Numbers.{numbers_text};
 
 use crate::numbers::push_numbers;
-use crate::texts::push_shown;
+use app_model::push_shown;
 use component_list::ListFault;
 use std::alloc::{AllocError, Global};
 

@@ -2,7 +2,7 @@
 ghost use Rattle.std.specs.Prelude.{◌≡◌, ◌++◌, IfOk};
 ghost use Rattle.report_text.specs.Refusals.{refused_text};
 
-use crate::heads::push_member;
+use app_model::push_member;
 use crate::numbers::{push_decimal, push_numbers};
 use scope_check::ScopeFault;
 use std::alloc::{AllocError, Global};

@@ -17,25 +17,10 @@ use Rattle.act_model.specs.declared.act.Act.TheVariants.{Go, Check, TakeResult, 
 use Rattle.act_model.specs.declared.act.Throws.{Throws}
 use Rattle.act_model.specs.declared.act.Throws.TheVariants.{Never, WhereZero}
 use Rattle.act_model.specs.declared.act.Written.TheVariants as written
-use Rattle.act_model.specs.Acts.{act_at, act_by, act_of, read_act, write_act}
+use Rattle.act_model.specs.Acts.{act_at, act_by, act_of}
+use Rattle.flow_model.proofs.Slots.{either_same, reads_none, stored_slot, writes_slot}
 
 -- ---- the lock field that an act stores to
-abbrev stored_slot : Act → Option ℕ
-stored_slot (WriteSlot from l when) = Some l.0
-stored_slot _ = None
-
-either_stores : (b : Bool) (x y : Act) (o : Option ℕ) → stored_slot x ≡ o → stored_slot y ≡ o → stored_slot (if b then x else y) ≡ o
-either_stores true x y o a b = a
-either_stores false x y o a b = b
-
-reads_none : (to : ℕ) (slot : Option ℕ) (op : ℕ) (when : Throws) → stored_slot (read_act to slot op when) ≡ None
-reads_none to None op when = refl
-reads_none to (Some l) op when = refl
-
-writes_slot : (from : ℕ) (slot : Option ℕ) (when : Throws) → stored_slot (write_act from slot when) ≡ slot
-writes_slot from None when = refl
-writes_slot from (Some l) when = refl
-
 -- an access that names a lock field is one of an object
 object_access : (app : AppParts) (m i l : ℕ) → slot_at app m i ≡ Some l → is_object_access (ins_at app m i) ≡ true
 unfolding slot_at
@@ -46,10 +31,10 @@ object_access app m i l is = by (is_object_access (ins_at app m i)) refl is
     by false access is = cc
 
 stores_by : (app : AppParts) (m i : ℕ) (own : Ins) (l : ℕ) → ins_at app m i ≡ Some own → stored_slot (act_of app m i own) ≡ Some l → StoresAt app m i l
-stores_by app m i (ins.MoveResult op to) l there is = absurd (let none = either_stores (op == MOVE_RESULT_WIDE) (Write to written.Pair Never) (TakeResult to) None refl refl in cc)
-stores_by app m i (ins.Monitor op object) l there is = absurd (let none = either_stores (op == MONITOR_ENTER) (Check (WhereZero object)) Go None refl refl in cc)
+stores_by app m i (ins.MoveResult op to) l there is = absurd (let none = either_same stored_slot (op == MOVE_RESULT_WIDE) (Write to written.Pair Never) (TakeResult to) None refl refl in cc)
+stores_by app m i (ins.Monitor op object) l there is = absurd (let none = either_same stored_slot (op == MONITOR_ENTER) (Check (WhereZero object)) Go None refl refl in cc)
 stores_by app m i (ins.IfZero op value offset) l there is =
-    absurd (let none = either_stores (op == IF_EQZ) (Test value 1) (if op == IF_NEZ then Test value 0 else Go) None refl (either_stores (op == IF_NEZ) (Test value 0) Go None refl refl) in cc)
+    absurd (let none = either_same stored_slot (op == IF_EQZ) (Test value 1) (if op == IF_NEZ then Test value 0 else Go) None refl (either_same stored_slot (op == IF_NEZ) (Test value 0) Go None refl refl) in cc)
 stores_by app m i (ins.FieldGet op to object field) l there is = absurd (let none = reads_none to (slot_at app m i) op (WhereZero object) in cc)
 stores_by app m i (ins.StaticGet op to field) l there is = absurd (let none = reads_none to (slot_at app m i) op Never in cc)
 stores_by app m i (ins.FieldPut op value object field) l there is =

@@ -29,7 +29,8 @@ use Rattle.flow_model.specs.TagFlow.{TellsReached, TellsStores}
 use Rattle.tag_flow.specs.Known.{IsKnown, KnownParts, chosen, is_reached}
 use Rattle.tag_rows.specs.Sites.{AreSites}
 use Rattle.tag_rows.specs.declared.sites.Site.{Site}
-use Rattle.tag_rows.proofs.Acts.{method_within, nearest_below, slot_below}
+use Rattle.tag_rows.proofs.Acts.{method_within}
+use Rattle.flow_model.proofs.Slots.{nearest_below, slot_below}
 
 abbrev method_no : ℕ → MethodNo
 method_no m = record { 0 = m }

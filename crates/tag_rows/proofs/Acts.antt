@@ -31,42 +31,13 @@ use Rattle.act_model.specs.declared.act.Throws.TheVariants.{Never, WhereZero}
 use Rattle.act_model.specs.declared.act.Written.TheVariants as written
 use Rattle.tag_rows.specs.Changes.{makes_lock}
 use Rattle.act_model.specs.Acts.{act_at, act_by, act_of, read_act, write_act}
-
--- ---- what an access names
-pub nearest_below : (found : ℕ → Option ℕ) (n l : ℕ) → ((c k : ℕ) → found c ≡ Some k → k < n) → (above : List ℕ) → nearest found above ≡ Some l → l < n
-nearest_below found n l below [] is = cc
-nearest_below found n l below (c ∷ above) is = by (nearest_below found n l below above) (found c) refl is
-  where
-    by : (nearest found above ≡ Some l → l < n) → (o : Option ℕ) → found c ≡ o → or_else o (nearest found above) ≡ Some l → l < n
-    by rest None here is = rest is
-    by rest (Some k) here is = below c l (here ∙ is)
-
-named_below : (app : AppParts) (field : Option NamedField) (l : ℕ) → lock_named app field ≡ Some l → l < length app.locks
-unfolding lock_of lock_in
-named_below app None l is = cc
-named_below app (Some field) l is = by (bytes_eq (type_text app field.kind.0) wake_lock_name) is
-  where
-    by : (b : Bool) → (if b then lock_of app field.class.0 field.name.0 else None) ≡ Some l → l < length app.locks
-    by true is = nearest_below (lock_in app field.name.0) (length app.locks) l (λ c k found. (position-Some _ app.locks k (record { 0 = 0 }) found).0) (line_of app.classes field.class.0) is
-    by false is = cc
-
-pub slot_below : (app : AppParts) (m i l : ℕ) → slot_at app m i ≡ Some l → l < length app.locks
-unfolding slot_at
-slot_below app m i l is = by (is_object_access (ins_at app m i)) is
-  where
-    by : (b : Bool) → (if b then lock_named app (field_named_at app m i) else None) ≡ Some l → l < length app.locks
-    by true is = named_below app (field_named_at app m i) l is
-    by false is = cc
+use Rattle.flow_model.proofs.Slots.{either_same, slot_below}
 
 -- ---- the lock field that an act reads or writes
 abbrev pub named_slot : Act → Option ℕ
 named_slot (ReadSlot to l when) = Some l.0
 named_slot (WriteSlot from l when) = Some l.0
 named_slot _ = None
-
-either_named : {A : Type 0} (f : Act → A) (b : Bool) (x y : Act) (o : A) → f x ≡ o → f y ≡ o → f (if b then x else y) ≡ o
-either_named f true x y o a b = a
-either_named f false x y o a b = b
 
 reads_slot : (to : ℕ) (slot : Option ℕ) (op : ℕ) (when : Throws) → named_slot (read_act to slot op when) ≡ slot
 reads_slot to None op when = refl
@@ -85,10 +56,10 @@ writes_no_lock from None when = refl
 writes_no_lock from (Some l) when = refl
 
 act_named : (app : AppParts) (m i : ℕ) (own : Ins) (l : ℕ) → named_slot (act_of app m i own) ≡ Some l → slot_at app m i ≡ Some l
-act_named app m i (ins.MoveResult op to) l is = let none = either_named named_slot (op == MOVE_RESULT_WIDE) (Write to written.Pair Never) (TakeResult to) None refl refl in cc
-act_named app m i (ins.Monitor op object) l is = let none = either_named named_slot (op == MONITOR_ENTER) (Check (WhereZero object)) Go None refl refl in cc
+act_named app m i (ins.MoveResult op to) l is = let none = either_same named_slot (op == MOVE_RESULT_WIDE) (Write to written.Pair Never) (TakeResult to) None refl refl in cc
+act_named app m i (ins.Monitor op object) l is = let none = either_same named_slot (op == MONITOR_ENTER) (Check (WhereZero object)) Go None refl refl in cc
 act_named app m i (ins.IfZero op value offset) l is =
-    let none = either_named named_slot (op == IF_EQZ) (Test value 1) (if op == IF_NEZ then Test value 0 else Go) None refl (either_named named_slot (op == IF_NEZ) (Test value 0) Go None refl refl) in cc
+    let none = either_same named_slot (op == IF_EQZ) (Test value 1) (if op == IF_NEZ then Test value 0 else Go) None refl (either_same named_slot (op == IF_NEZ) (Test value 0) Go None refl refl) in cc
 act_named app m i (ins.FieldGet op to object field) l is = sym (reads_slot to (slot_at app m i) op (WhereZero object)) ∙ is
 act_named app m i (ins.FieldPut op value object field) l is = sym (writes_slot value (slot_at app m i) (WhereZero object)) ∙ is
 act_named app m i (ins.StaticGet op to field) l is = sym (reads_slot to (slot_at app m i) op Never) ∙ is
@@ -96,10 +67,10 @@ act_named app m i (ins.StaticPut op value field) l is = sym (writes_slot value (
 act_named app m i _ l is = cc
 
 act_makes : (app : AppParts) (m i : ℕ) (own : Ins) → makes_lock (act_of app m i own) ≡ true → is_make (lock_use_at app m i) ≡ true
-act_makes app m i (ins.MoveResult op to) is = let none = either_named makes_lock (op == MOVE_RESULT_WIDE) (Write to written.Pair Never) (TakeResult to) false refl refl in cc
-act_makes app m i (ins.Monitor op object) is = let none = either_named makes_lock (op == MONITOR_ENTER) (Check (WhereZero object)) Go false refl refl in cc
+act_makes app m i (ins.MoveResult op to) is = let none = either_same makes_lock (op == MOVE_RESULT_WIDE) (Write to written.Pair Never) (TakeResult to) false refl refl in cc
+act_makes app m i (ins.Monitor op object) is = let none = either_same makes_lock (op == MONITOR_ENTER) (Check (WhereZero object)) Go false refl refl in cc
 act_makes app m i (ins.IfZero op value offset) is =
-    let none = either_named makes_lock (op == IF_EQZ) (Test value 1) (if op == IF_NEZ then Test value 0 else Go) false refl (either_named makes_lock (op == IF_NEZ) (Test value 0) Go false refl refl) in cc
+    let none = either_same makes_lock (op == IF_EQZ) (Test value 1) (if op == IF_NEZ then Test value 0 else Go) false refl (either_same makes_lock (op == IF_NEZ) (Test value 0) Go false refl refl) in cc
 act_makes app m i (ins.FieldGet op to object field) is = let none = reads_no_lock to (slot_at app m i) op (WhereZero object) in cc
 act_makes app m i (ins.FieldPut op value object field) is = let none = writes_no_lock value (slot_at app m i) (WhereZero object) in cc
 act_makes app m i (ins.StaticGet op to field) is = let none = reads_no_lock to (slot_at app m i) op Never in cc
