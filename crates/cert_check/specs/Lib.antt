@@ -4,3 +4,5 @@ pub mod Broken
 pub mod Verdict
 pub mod Rows
 pub mod Cases
+pub mod Tests
+pub mod Moves

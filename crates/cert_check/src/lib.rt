@@ -4,7 +4,12 @@
 //! - `verdict` has the answers.
 #![tactic(auto)]
 
+mod between;
+mod carrying;
+mod entered;
+mod inside;
 mod rows;
+mod site;
 mod task;
 mod verdict;
 mod which;

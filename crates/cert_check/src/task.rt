@@ -1,5 +1,6 @@
 //! What is checked: a lock field of a subject, by its part of a certificate.
-ghost use Rattle.std.specs.Prelude.{◌≡◌, ◌<◌, ℕ, true, length, option_map, IfSome};
+ghost use Rattle.std.specs.Prelude.{◌≡◌, ◌<◌, ℕ, true, length, Some};
+ghost use Rattle.app_model.specs.declared.component.Edge.{Edge};
 ghost use Rattle.ns_base.specs.declared.rows.MethodNo.{MethodNo};
 ghost use Rattle.ns_base.specs.declared.rows.ComponentNo.{ComponentNo};
 ghost use Rattle.app_model.specs.Components.{callback_at, edge_at, exits_at};
@@ -103,5 +104,29 @@ impl<'a> Task<'a> {
         let subject = self.subject;
         subject.told();
         subject.list.rows.len() as u32
+    }
+
+    /// An edge of a component, from 0; none from the count on.
+    #[tactic(auto, unfolding(app_model::specs::Components::edge_at))]
+    pub fn edge(&self, component: ComponentNo, number: u32) -> Option<Edge>
+        ensures { result ≡ edge_at self.now.subject.list component.0 number }
+    {
+        let subject = self.subject;
+        match subject.list.rows.get(component.0 as usize) {
+            Some(row) => edge(row.kind, number),
+            None => None,
+        }
+    }
+
+    /// A number above those of all edges of a component.
+    #[tactic(auto, using(crate::proofs::Lifecycles::edge_within), unfolding(app_model::specs::Components::edge_at))]
+    pub fn edge_count(&self, component: ComponentNo) -> u32
+        ensures { (e : ℕ) (edge : Edge) → edge_at self.now.subject.list component.0 e ≡ Some edge → e < result }
+    {
+        let subject = self.subject;
+        match subject.list.rows.get(component.0 as usize) {
+            Some(row) => edge_count(row.kind),
+            None => 0,
+        }
     }
 }
