@@ -42,7 +42,7 @@ module _ (t : Case) (c : ℕ) (edge : Edge) where
   }
 
 -- a component that has an edge is one of the list
-edge_component : (list : List ComponentParts) (c e : ℕ) (edge : Edge) → edge_at list c e ≡ Some edge → c < length list
+pub edge_component : (list : List ComponentParts) (c e : ℕ) (edge : Edge) → edge_at list c e ≡ Some edge → c < length list
 unfolding edge_at
 edge_component list c e edge = go (slice_get list c) refl
   where

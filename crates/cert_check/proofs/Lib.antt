@@ -6,3 +6,5 @@ pub mod Ways
 pub mod Missing
 pub mod Leading
 pub mod Edges
+pub mod Instances
+pub mod FirstPlaces

@@ -6,3 +6,4 @@ pub mod Rows
 pub mod Cases
 pub mod Tests
 pub mod Moves
+pub mod Firsts

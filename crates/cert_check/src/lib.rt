@@ -8,6 +8,7 @@ mod between;
 mod carrying;
 mod entered;
 mod inside;
+mod places;
 mod rows;
 mod site;
 mod task;

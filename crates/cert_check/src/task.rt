@@ -10,7 +10,7 @@ ghost use Rattle.app_model.specs.Subject.{IsEnterable, is_reached, answers_at};
 ghost use Rattle.app_model.specs.Words.{code_len};
 ghost use Rattle.flow_model.specs.Rules as rules;
 ghost use Rattle.cert_check.specs.Cases.{IsCase, IsEntry, set_of};
-ghost use Rattle.cert_check.specs.Rows.{HasEntry};
+ghost use Rattle.cert_check.specs.Rows.{HasEntry, AreRising};
 
 use crate::rows::{is_rising, rows_of_entry, rows_of_state, view_mask};
 use app_model::{Edge, Subject};
@@ -128,5 +128,20 @@ impl<'a> Task<'a> {
             Some(row) => edge_count(row.kind),
             None => 0,
         }
+    }
+
+    /// Whether the rows rise.
+    pub fn rises(&self) -> bool
+        ensures { result ≡ true → AreRising self.now.part }
+    {
+        self.rising
+    }
+
+    /// The rows of methods.
+    pub fn rows(&self) -> &[BodyRow]
+        ensures { result.now ≡ self.now.part.bodies }
+    {
+        let part = self.part;
+        &part.bodies
     }
 }
