@@ -8,3 +8,5 @@ pub mod Leading
 pub mod Edges
 pub mod Instances
 pub mod FirstPlaces
+pub mod Unmet
+pub mod Locks

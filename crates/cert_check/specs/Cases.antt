@@ -17,7 +17,7 @@ pub record Case : Type 0 where
   pub part : LockRows
 
 abbrev pub set_of : Case → Set
-set_of t f = facts_of t.part f
+set_of t = facts_of t.part
 
 pub record IsCase (t : Case) : Type 0 where
   pub sound : IsSubject t.subject

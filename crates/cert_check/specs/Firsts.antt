@@ -1,9 +1,13 @@
 -- The first place at which a rule leads out of the facts of a lock field.
-use Rattle.std.specs.Prelude.{ℕ, ◌≡◌, ◌<◌, Bool, true, false, if◌then◌else◌, length, List, [], ◌∷◌, Option, Some, None}
+use Rattle.std.specs.Prelude.{ℕ, ◌≡◌, ◌<◌, Bool, true, false, if◌then◌else◌, length, List, [], ◌∷◌, Option, Some, None, slice_get}
+use Rattle.app_model.specs.Subject.{SubjectParts}
+use Rattle.certificate.specs.Parts.{LockRows}
 use Rattle.flow_model.specs.Places.{place}
 use Rattle.cert_check.specs.Broken.{LeadsOut}
 use Rattle.cert_check.specs.Cases.{Case, set_of}
-use Rattle.cert_check.specs.Verdict.{Precedes, rule_of}
+use Rattle.cert_check.specs.Sets.{facts_in}
+use Rattle.cert_check.specs.Verdict.{Precedes, rule_of, rule_number}
+use Rattle.cert_check.specs.declared.checking.Breach.{Breach}
 use Rattle.cert_check.specs.declared.places.Found.{Found}
 use Rattle.cert_check.specs.declared.verdict.Rule.{Rule}
 use Rattle.cert_check.specs.declared.verdict.Rule.TheVariants.{V1, V2, V3, V4, V5, I1, I2, I3, C1, C2, C3}
@@ -42,3 +46,19 @@ abbrev pub IsFirst : Rule → Case → Option Found → Type 0
 IsFirst rule t None = (a b c : ℕ) → ¬ IsBrokenAt rule t a b c
 IsFirst rule t (Some f) =
     IsBrokenAt rule t f.a f.b f.c × ((a b c : ℕ) → Precedes (a ∷ b ∷ c ∷ []) (f.a ∷ f.b ∷ f.c ∷ []) → ¬ IsBrokenAt rule t a b c)
+
+-- ---- by any rule, and for any of the first n lock fields
+abbrev pub IsFirstRule : Case → Option Breach → Type 0
+IsFirstRule t None = (rule : Rule) (a b c : ℕ) → ¬ IsBrokenAt rule t a b c
+IsFirstRule t (Some f) =
+    (f.lock ≡ t.lock) × IsBrokenAt f.rule t f.a f.b f.c
+    × ((rule : Rule) (a b c : ℕ) → Precedes (rule_number rule ∷ a ∷ b ∷ c ∷ []) (rule_number f.rule ∷ f.a ∷ f.b ∷ f.c ∷ []) → ¬ IsBrokenAt rule t a b c)
+
+abbrev pub IsBrokenIn : SubjectParts → List LockRows → (l : ℕ) → Rule → (a b c : ℕ) → Type 0
+IsBrokenIn x parts l rule a b c = LeadsOut x l (facts_in (slice_get parts l)) (place (rule_of rule) a b c)
+
+abbrev pub IsFirstBreach : SubjectParts → List LockRows → (n : ℕ) → Option Breach → Type 0
+IsFirstBreach x parts n None = (l : ℕ) (rule : Rule) (a b c : ℕ) → l < n → ¬ IsBrokenIn x parts l rule a b c
+IsFirstBreach x parts n (Some f) =
+    (f.lock < n) × IsBrokenIn x parts f.lock f.rule f.a f.b f.c
+    × ((l : ℕ) (rule : Rule) (a b c : ℕ) → Precedes (l ∷ rule_number rule ∷ a ∷ b ∷ c ∷ []) (f.lock ∷ rule_number f.rule ∷ f.a ∷ f.b ∷ f.c ∷ []) → ¬ IsBrokenIn x parts l rule a b c)

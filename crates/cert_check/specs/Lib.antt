@@ -7,3 +7,5 @@ pub mod Cases
 pub mod Tests
 pub mod Moves
 pub mod Firsts
+pub mod Ends
+pub mod Digests

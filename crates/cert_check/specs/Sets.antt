@@ -30,8 +30,8 @@ facts_of part (Exc m e s) = body_has (λ row. row.exc) part.bodies m e s
 
 -- of lock field l
 abbrev pub facts_in : Option LockRows → Set
-facts_in None f = false
-facts_in (Some part) f = facts_of part f
+facts_in None = λ f. false
+facts_in (Some part) = facts_of part
 
 abbrev pub facts_at : CertParts → (l : ℕ) → Set
 facts_at cert l = facts_in (slice_get cert.locks l)

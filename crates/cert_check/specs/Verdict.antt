@@ -39,17 +39,17 @@ Says x list dex cert (Unmet c k l s) = IsViolation x (Carries x l) l (HasAll (fa
 
 -- ---- the order in which answers are tried: by these numbers, the first of which decides
 abbrev pub rule_number : Rule → ℕ
-rule_number V1 = 1
-rule_number V2 = 2
-rule_number V3 = 3
-rule_number V4 = 4
-rule_number V5 = 5
-rule_number I1 = 6
-rule_number I2 = 7
-rule_number I3 = 8
-rule_number C1 = 9
-rule_number C2 = 10
-rule_number C3 = 11
+rule_number V1 = 0
+rule_number V2 = 1
+rule_number V3 = 2
+rule_number V4 = 3
+rule_number V5 = 4
+rule_number I1 = 5
+rule_number I2 = 6
+rule_number I3 = 7
+rule_number C1 = 8
+rule_number C2 = 9
+rule_number C3 = 10
 
 abbrev pub order : Checked → List ℕ
 order ListDigest = 0 ∷ []

@@ -6,13 +6,17 @@
 
 mod between;
 mod carrying;
+mod checking;
 mod entered;
 mod inside;
 mod places;
+mod policy;
 mod rows;
+mod shape;
 mod site;
 mod task;
 mod verdict;
 mod which;
 
+pub use checking::check;
 pub use verdict::{Checked, Rule};

@@ -144,4 +144,14 @@ impl<'a> Task<'a> {
         let part = self.part;
         &part.bodies
     }
+
+    /// The policy exits of a component, as a mask over its callbacks.
+    #[tactic(auto, unfolding(app_model::specs::Components::exits_at))]
+    pub fn exits(&self, component: ComponentNo) -> u8
+        requires { component.0 < length self.now.subject.list }
+        ensures { result ≡ exits_at self.now.subject.list component.0 }
+    {
+        let subject = self.subject;
+        subject.list.rows[component.0 as usize].exits
+    }
 }
