@@ -24,7 +24,7 @@ abbrev pub spot : Case → (m e i : ℕ) → Spot
 spot t m e i = record { entry = record { case = t; method = m; status = e }; index = i }
 
 -- ---- a rule by its name
-abbrev named_rule : named.Rule → Rule
+abbrev pub named_rule : named.Rule → Rule
 named_rule named.V1 = V1
 named_rule named.V2 = V2
 named_rule named.V3 = V3
@@ -49,6 +49,19 @@ named_again I3 = refl
 named_again C1 = refl
 named_again C2 = refl
 named_again C3 = refl
+
+pub rule_again : (q : named.Rule) → rule_of (named_rule q) ≡ q
+rule_again named.V1 = refl
+rule_again named.V2 = refl
+rule_again named.V3 = refl
+rule_again named.V4 = refl
+rule_again named.V5 = refl
+rule_again named.I1 = refl
+rule_again named.I2 = refl
+rule_again named.I3 = refl
+rule_again named.C1 = refl
+rule_again named.C2 = refl
+rule_again named.C3 = refl
 
 -- ---- an instance inside callbacks that leads out, by its instruction
 record IsStep (t : Case) (at : Place) : Type 0 where

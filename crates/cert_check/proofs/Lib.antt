@@ -10,3 +10,5 @@ pub mod Instances
 pub mod FirstPlaces
 pub mod Unmet
 pub mod Locks
+pub mod Breaches
+pub mod Verdicts

@@ -92,14 +92,22 @@ fn first_breach(subject: &Subject, parts: &[LockPart]) -> Option<Breach>
     None
 }
 
+fn is_digest(own: &[u8; 20], other: &[u8; 20]) -> bool
+    ensures { IsTrue result ↔ (own.now ≡ other.now) }
+{
+    own == other
+}
+
 fn is_same(own: &[[u8; 20]], dex: &[[u8; 20]], file: usize) -> bool
     ensures { IsTrue result ↔ (slice_get own.now file ≡ slice_get dex.now file) }
 {
-    if file < own.len() && file < dex.len() {
-        own[file] == dex[file]
-    } else {
-        file >= own.len() && file >= dex.len()
+    if file >= own.len() {
+        return file >= dex.len();
     }
+    if file >= dex.len() {
+        return false;
+    }
+    is_digest(&own[file], &dex[file])
 }
 
 // The first file whose digests differ, or that one side alone has.
@@ -123,7 +131,7 @@ pub fn check(subject: &Subject, list: &[u8; 20], dex: &[[u8; 20]], cert: &Certif
     ensures valid { (result ≡ Checked.Valid) ↔ IsAccepted subject.now list.now dex.now cert.now }
 {
     subject.told();
-    if *list != cert.list {
+    if !is_digest(&cert.list, list) {
         return Checked::ListDigest;
     }
     if let Some(file) = first_digest(&cert.dex, dex) {
