@@ -1,0 +1,14 @@
+pub mod Sought
+pub mod Told
+pub mod Lifecycles
+pub mod Searches
+pub mod Ways
+pub mod Missing
+pub mod Leading
+pub mod Edges
+pub mod Instances
+pub mod FirstPlaces
+pub mod Unmet
+pub mod Locks
+pub mod Breaches
+pub mod Verdicts
