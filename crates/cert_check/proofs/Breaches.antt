@@ -53,10 +53,14 @@ module _ (t : Case) where
       (cases_lt (rule_number other) n)
 
   pub rule_some : (n lock : ℕ) (rule : Rule) (f : Found) → NoneRule n → rule_number rule ≡ n → lock ≡ t.lock → IsFirst rule t (Some f) → IsFirstRule t (Some (record { lock = lock; rule = rule; a = f.a; b = f.b; c = f.c }))
-  rule_some n lock rule f none is at first = (at, first.0, (λ other a b c before broken. ⊎_elim
-      (λ lt. none other a b c (rw is at lt) broken)
-      (λ z. (let same : other ≡ rule = same_rule other rule z.0 in first.1 a b c z.1 (rw same at broken)))
-      before))
+  rule_some n lock rule f none is at first = (
+    at,
+    first.0,
+    (λ other a b c before broken. ⊎_elim
+        (λ lt. none other a b c (rw is at lt) broken)
+        (λ z. (let same : other ≡ rule = same_rule other rule z.0 in first.1 a b c z.1 (rw same at broken)))
+        before),
+  )
 
   pub rule_none : (n : ℕ) → 11 ≤ n → NoneRule n → IsFirstRule t None
   rule_none n le none = λ rule a b c broken. none rule a b c (let low = (numbered_low rule).1 in omega arith) broken
@@ -78,19 +82,24 @@ module _ (x : SubjectParts) (parts : List LockRows) (n : ℕ) (part : LockRows) 
 
   pub lock_some : (count : ℕ) (o : Option Breach) → n < count → IsFirstBreach x parts n None → IsFirstRule (case_of x n part) o → is_some o ≡ true → IsFirstBreach x parts count o
   lock_some count None low none first on = absurd (false≢true on)
-  lock_some count (Some f) low none first on = ((let at = first.0 in omega arith), in_parts f.rule f.a f.b f.c f.lock first.0 first.1, (λ l rule a b c before broken. ⊎_elim
-      (λ lt. none l rule a b c (let at = first.0 in omega arith) broken)
-      (λ z. (let same : l ≡ n = z.0 ∙ first.0 in first.2 rule a b c z.1 (of_part rule a b c (rw same at broken))))
-      before))
+  lock_some count (Some f) low none first on = (
+    (let at = first.0 in omega arith),
+    in_parts f.rule f.a f.b f.c f.lock first.0 first.1,
+    (λ l rule a b c before broken. ⊎_elim
+        (λ lt. none l rule a b c (let at = first.0 in omega arith) broken)
+        (λ z. (let same : l ≡ n = z.0 ∙ first.0 in first.2 rule a b c z.1 (of_part rule a b c (rw same at broken))))
+        before),
+  )
 
 -- ---- digests
 pub both_past : (own dex : List (List ℕ)) (i : ℕ) → length own ≤ i → IsTrue (nat_le (length dex) i) ↔ (slice_get own i ≡ slice_get dex i)
 both_past own dex i past = (
-    (λ h. slice_get_past own i past ∙ sym (slice_get_past dex i (leb-true (length dex) i h))),
-    (λ same. ⊎_elim
-    (λ lt. absurd (let none = slice_get_past own i past in let some = slice_get-get_or dex i [] lt in cc))
-    (λ le. le-leb (length dex) i le)
-    (cases_lt i (length dex))))
+  (λ h. slice_get_past own i past ∙ sym (slice_get_past dex i (leb-true (length dex) i h))),
+  (λ same. ⊎_elim
+      (λ lt. absurd (let none = slice_get_past own i past in let some = slice_get-get_or dex i [] lt in cc))
+      (λ le. le-leb (length dex) i le)
+      (cases_lt i (length dex))),
+)
 
 pub one_past : (own dex : List (List ℕ)) (i : ℕ) → i < length own → length dex ≤ i → IsTrue false ↔ (slice_get own i ≡ slice_get dex i)
 one_past own dex i within past = ((λ h. absurd (false≢true h)), (λ same. absurd (let some = slice_get-get_or own i [] within in let none = slice_get_past dex i past in cc)))

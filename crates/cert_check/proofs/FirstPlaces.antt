@@ -42,10 +42,13 @@ module _ (rule : Rule) (t : Case) (is : IsCase t) (inner : is_inside rule ≡ tr
 
   module _ (m e n : ℕ) (none : NoneBelow (λ i. IsOut rule (spot t m e i)) n) where
     pub pc_some : (pc : ℕ) (b : Bool) → pc_at t.subject.app m n ≡ Some pc → (IsTrue b ↔ IsOut rule (spot t m e n)) → b ≡ true → IsFirstLast rule t m e (Some pc)
-    pc_some pc b at test on = (out_broken t m e n pc at rule (test.0 on), (λ d lt broken. (let f = spot_out m e d broken in ⊎_elim
-        (λ same. absurd (let eq : d ≡ pc = (let two = f.pc in let one : pc_at t.subject.app m f.index ≡ Some pc = rw same at in cc) in omega arith))
-        (λ apart. ⊎_elim (λ below. none f.index below f.out) (λ above. (let up = pcs_rise t.subject m is.sound f.at.method n f.index pc d at f.pc above in absurd (omega arith))) apart)
-        (cases_order f.index n))))
+    pc_some pc b at test on = (
+      out_broken t m e n pc at rule (test.0 on),
+      (λ d lt broken. (let f = spot_out m e d broken in ⊎_elim
+          (λ same. absurd (let eq : d ≡ pc = (let two = f.pc in let one : pc_at t.subject.app m f.index ≡ Some pc = rw same at in cc) in omega arith))
+          (λ apart. ⊎_elim (λ below. none f.index below f.out) (λ above. (let up = pcs_rise t.subject m is.sound f.at.method n f.index pc d at f.pc above in absurd (omega arith))) apart)
+          (cases_order f.index n))),
+    )
 
     pub pc_none : code_len t.subject.app m ≤ n → IsFirstLast rule t m e None
     pc_none past = λ c broken. (let f = spot_out m e c broken in none f.index (let lt = f.at.index in omega arith) f.out)
@@ -118,10 +121,13 @@ module _ (rule : Rule) (t : Case) where
 
   pub from_some : (n : ℕ) (o : Option Found) → NoneFrom n → IsFirstWith rule t n o → is_some o ≡ true → IsFirst rule t o
   from_some n None none with_it on = absurd (false≢true on)
-  from_some n (Some f) none with_it on = (rw with_it.0 with_it.1, (λ a b c before broken. ⊎_elim
-      (λ lt. none a b c (rw with_it.0 at lt) broken)
-      (λ z. with_it.2 b c z.1 (let same : a ≡ n = z.0 ∙ with_it.0 in rw same at broken))
-      before))
+  from_some n (Some f) none with_it on = (
+    rw with_it.0 with_it.1,
+    (λ a b c before broken. ⊎_elim
+        (λ lt. none a b c (rw with_it.0 at lt) broken)
+        (λ z. with_it.2 b c z.1 (let same : a ≡ n = z.0 ∙ with_it.0 in rw same at broken))
+        before),
+  )
 
   pub from_none : IsCase t → (n : ℕ) → place_count rule t ≤ n → NoneFrom n → IsFirst rule t None
   from_none is n le none = λ a b c broken. none a b c (let low = (place_low rule t a b c is broken).0 in omega arith) broken
@@ -147,16 +153,19 @@ module _ (rule : Rule) (t : Case) (is : IsCase t) (inner : is_inside rule ≡ tr
       (cases_lt k n)
 
   pub row_some : (n c : ℕ) (row : BodyParts) → NoneBefore rule t n → slice_get t.part.bodies n ≡ Some row → IsFirstLast rule t row.method row.entry (Some c) → IsFirst rule t (Some (record { a = row.method; b = row.entry; c = c }))
-  row_some n c row none at last = (last.0, (λ a b d before broken. (let low : row.entry < 8 = rw (get_or_from_slice_get t.part.bodies n row row at) at (is.fits.bodies n row (slice_get_within t.part.bodies n row at)).status in let earlier : ((k : ℕ) (other : BodyParts) → slice_get t.part.bodies k ≡ Some other → body_rank other < body_rank row → k < n) = (λ k other there less. ⊎_elim (λ lt. lt) (λ le. absurd (⊎_elim
-      (λ above. (let step = rank_up body_rank t.part.bodies up n k row other at there above in omega arith))
-      (λ same. (let eq : k ≡ n = omega arith in let one : other ≡ row = (let first : slice_get t.part.bodies n ≡ Some other = rw eq at there in cc) in let bad : body_rank row < body_rank row = rw one at less in omega arith))
-      (cases_lt n k))) (cases_lt k n)) in ⊎_elim
-      (λ lt. row_before n a b d none broken (λ k other there method entry small. earlier k other there (omega arith)))
-      (λ z. ⊎_elim
-      (λ lt. (let first = z.0 in row_before n a b d none broken (λ k other there method entry small. earlier k other there (omega arith))))
-      (λ y. ⊎_elim (λ lt. last.1 d lt (rw (z.0, y.0) at broken)) (λ w. w.1) y.1)
-      z.1)
-      before)))
+  row_some n c row none at last = (
+    last.0,
+    (λ a b d before broken. (let low : row.entry < 8 = rw (get_or_from_slice_get t.part.bodies n row row at) at (is.fits.bodies n row (slice_get_within t.part.bodies n row at)).status in let earlier : ((k : ℕ) (other : BodyParts) → slice_get t.part.bodies k ≡ Some other → body_rank other < body_rank row → k < n) = (λ k other there less. ⊎_elim (λ lt. lt) (λ le. absurd (⊎_elim
+        (λ above. (let step = rank_up body_rank t.part.bodies up n k row other at there above in omega arith))
+        (λ same. (let eq : k ≡ n = omega arith in let one : other ≡ row = (let first : slice_get t.part.bodies n ≡ Some other = rw eq at there in cc) in let bad : body_rank row < body_rank row = rw one at less in omega arith))
+        (cases_lt n k))) (cases_lt k n)) in ⊎_elim
+        (λ lt. row_before n a b d none broken (λ k other there method entry small. earlier k other there (omega arith)))
+        (λ z. ⊎_elim
+        (λ lt. (let first = z.0 in row_before n a b d none broken (λ k other there method entry small. earlier k other there (omega arith))))
+        (λ y. ⊎_elim (λ lt. last.1 d lt (rw (z.0, y.0) at broken)) (λ w. w.1) y.1)
+        z.1)
+        before)),
+  )
 
   pub row_none : (n : ℕ) → length t.part.bodies ≤ n → NoneBefore rule t n → IsFirst rule t None
   row_none n past none = λ a b c broken. (let f = spot_out rule t is inner a b c broken in row_before n a b c none broken (λ k row there method entry small. (let w = slice_get_within t.part.bodies k row there in omega arith)))

@@ -19,14 +19,16 @@ module _ (t : Spot) where
   pub passes_one : (s k j mask there : ℕ) (b : Bool) → successor_at t.entry.case.subject.app t.entry.method t.index k ≡ Some j → mask ≡ (masks_of t).passes t.entry.method t.index k s
       → ((u : ℕ) → in_mask there u ≡ before t.entry j u) → (IsTrue b ↔ Misses (in_mask mask) (in_mask there)) → IsTrue b ↔ PassesTo t s k
   passes_one s k j mask there b at is reads test = (
-      (λ h. (j, at, misses_as _ _ _ _ (λ u. ap (λ n. in_mask n u) is) reads (test.0 h))),
-      (λ z. (let same : z.0 ≡ j = (let other = z.1 in cc) in test.1 (misses_as _ _ _ _ (λ u. ap (λ n. in_mask n u) (sym is)) (λ u. ap (λ i. before t.entry i u) same ∙ sym (reads u)) z.2))))
+    (λ h. (j, at, misses_as _ _ _ _ (λ u. ap (λ n. in_mask n u) is) reads (test.0 h))),
+    (λ z. (let same : z.0 ≡ j = (let other = z.1 in cc) in test.1 (misses_as _ _ _ _ (λ u. ap (λ n. in_mask n u) (sym is)) (λ u. ap (λ i. before t.entry i u) same ∙ sym (reads u)) z.2))),
+  )
 
   pub handles_one : (led k j there : ℕ) (b : Bool) → handler_at t.entry.case.subject.app t.entry.method t.index k ≡ Some j
       → ((u : ℕ) → in_mask there u ≡ before t.entry j u) → (IsTrue b ↔ Misses (in_mask led) (in_mask there)) → IsTrue b ↔ HandlesTo t (in_mask led) k
   handles_one led k j there b at reads test = (
-      (λ h. (j, at, misses_as _ _ _ _ (λ u. refl) reads (test.0 h))),
-      (λ z. (let same : z.0 ≡ j = (let other = z.1 in cc) in test.1 (misses_as _ _ _ _ (λ u. refl) (λ u. ap (λ i. before t.entry i u) same ∙ sym (reads u)) z.2))))
+    (λ h. (j, at, misses_as _ _ _ _ (λ u. refl) reads (test.0 h))),
+    (λ z. (let same : z.0 ≡ j = (let other = z.1 in cc) in test.1 (misses_as _ _ _ _ (λ u. refl) (λ u. ap (λ i. before t.entry i u) same ∙ sym (reads u)) z.2))),
+  )
 
   -- where the search comes to no way, or to the end
   module _ (is : IsSpot t) where
@@ -51,13 +53,15 @@ module _ (rule : Rule) (t : Spot) (s : ℕ) (callees : List MethodNo) where
   calls_one k d b lt test =
       let at = slice_get-get_or callees k d lt in (
         (λ h. (get_or callees k d, at, test.0 h)),
-        (λ z. (let same : z.0 ≡ get_or callees k d = (let other = z.1 in cc) in test.1 (subst (λ (n : MethodNo). CallOut rule t n.0 s) same z.2))))
+        (λ z. (let same : z.0 ≡ get_or callees k d = (let other = z.1 in cc) in test.1 (subst (λ (n : MethodNo). CallOut rule t n.0 s) same z.2))),
+      )
 
   module _ (are : callees ≡ callees_at t.entry.case.subject t.entry.method t.index) where
     pub calls_none : NoneBelow (CallsNumber rule t s callees) (length callees) → IsTrue false ↔ CallsOut rule t s
     calls_none none = (
-        (λ h. absurd (false≢true h)),
-        (λ z. (let there : Contains callees z.0 = rw (sym are) at z.1 in absurd (none there.0 there.1 (z.0, slice_get_read callees (length callees) there.0 z.0 refl there.1 (sym there.2), z.2)))))
+      (λ h. absurd (false≢true h)),
+      (λ z. (let there : Contains callees z.0 = rw (sym are) at z.1 in absurd (none there.0 there.1 (z.0, slice_get_read callees (length callees) there.0 z.0 refl there.1 (sym there.2), z.2)))),
+    )
 
     pub calls_some : (k : ℕ) (d : MethodNo) (b : Bool) → k < length callees → (IsTrue b ↔ CallOut rule t (get_or callees k d).0 s) → b ≡ true → IsTrue true ↔ CallsOut rule t s
     calls_some k d b lt test on = ((λ h. (get_or callees k d, subst (λ (xs : List MethodNo). Contains xs (get_or callees k d)) are (k, lt, get_or_default callees k _ d lt), test.0 on)), (λ z. refl))

@@ -91,17 +91,25 @@ module _ (x : SubjectParts) (parts : List LockRows) (n : ℕ) (part : LockRows) 
 
   -- the second is the first one, where the first does not come before it
   second_first : (w : Violation) → IsFirstOf (case_of x n part) (Some w) → ((c k l s : ℕ) → l < n → Precedes (c ∷ k ∷ l ∷ s ∷ []) (w.component ∷ w.callback ∷ w.lock ∷ w.status ∷ []) → ViolatesIn x parts c k l s → ⊥) → IsFirstUnmet x parts (n + 1) (Some w)
-  second_first w two below = ((let at = two.0 in omega arith), in_parts w.component w.callback w.status w.lock two.0 two.1, (λ c k l s lt before v. ⊎_elim
-      (λ less. below c k l s less before v)
-      (λ from. (let same : l ≡ n = omega arith in two.2 c k s (without_lock c k l s w.component w.callback w.lock w.status (same ∙ sym two.0) before) (of_part c k s (rw same at v))))
-      (cases_lt l n)))
+  second_first w two below = (
+    (let at = two.0 in omega arith),
+    in_parts w.component w.callback w.status w.lock two.0 two.1,
+    (λ c k l s lt before v. ⊎_elim
+        (λ less. below c k l s less before v)
+        (λ from. (let same : l ≡ n = omega arith in two.2 c k s (without_lock c k l s w.component w.callback w.lock w.status (same ∙ sym two.0) before) (of_part c k s (rw same at v))))
+        (cases_lt l n)),
+  )
 
   -- the first stays, where no violation of the lock field comes before it
   first_stays : (v : Violation) → IsFirstUnmet x parts n (Some v) → ((c k s : ℕ) → Precedes (c ∷ k ∷ n ∷ s ∷ []) (v.component ∷ v.callback ∷ v.lock ∷ v.status ∷ []) → Violates (case_of x n part) c k s → ⊥) → IsFirstUnmet x parts (n + 1) (Some v)
-  first_stays v one none = ((let low = one.0 in omega arith), one.1, (λ c k l s lt before b. ⊎_elim
-      (λ less. one.2 c k l s less before b)
-      (λ from. (let same : l ≡ n = omega arith in none c k s (rw same at before) (of_part c k s (rw same at b))))
-      (cases_lt l n)))
+  first_stays v one none = (
+    (let low = one.0 in omega arith),
+    one.1,
+    (λ c k l s lt before b. ⊎_elim
+        (λ less. one.2 c k l s less before b)
+        (λ from. (let same : l ≡ n = omega arith in none c k s (rw same at before) (of_part c k s (rw same at b))))
+        (cases_lt l n)),
+  )
 
   pub unmet_more : (first second : Option Violation) → IsFirstUnmet x parts n first → IsFirstOf (case_of x n part) second → IsFirstUnmet x parts (n + 1) (earlier first second)
   unmet_more None None one two = λ c k l s lt v. ⊎_elim
@@ -129,8 +137,9 @@ name_is (x ∷ xs) (y ∷ ys) same past =
 
 pub has_name : (x : SubjectParts) (l at : ℕ) (name : List ℕ) (o : Option ℕ) (b : Bool) → length name ≤ 4294967295 → length name ≤ at → at ≤ length name → ((k : ℕ) → k < at → slice_get name k ≡ slice_get (lock_text x.app l) k) → o ≡ slice_get (lock_text x.app l) (length name) → is_some o ≡ not b → IsTrue b ↔ HasName x l name
 has_name x l at name o b few from to same reads is = (
-    (λ h. (omega arith, name_is name (lock_text x.app l) (λ k lt. same k (omega arith)) (sym reads ∙ none_of o (is ∙ ap not h)))),
-    (λ z. not-false b (sym is ∙ ap is_some (reads ∙ slice_get_past (lock_text x.app l) (length name) (let e = ap length z.1 in omega arith)))))
+  (λ h. (omega arith, name_is name (lock_text x.app l) (λ k lt. same k (omega arith)) (sym reads ∙ none_of o (is ∙ ap not h)))),
+  (λ z. not-false b (sym is ∙ ap is_some (reads ∙ slice_get_past (lock_text x.app l) (length name) (let e = ap length z.1 in omega arith)))),
+)
   where
     none_of : (o : Option ℕ) → is_some o ≡ false → o ≡ None
     none_of None h = refl

@@ -43,8 +43,9 @@ module _ (led there : ℕ) (led_fits : led < 2 ^ 8) (there_fits : there < 2 ^ 8)
 
   pub misses_is : IsTrue (not (bit_and led (255 - there) == 0)) ↔ Misses (in_mask led) (in_mask there)
   misses_is = (
-      (λ yes. found (⊎_elim (λ zero. absurd (eqb-false _ _ (not-true _ yes) zero)) (λ some. omega (arith, some)) (cases_eq (bit_and led (bit_not w8 there)) 0))),
-      (λ m. not_from_false _ (ne_eqb _ _ (λ zero. none zero m))))
+    (λ yes. found (⊎_elim (λ zero. absurd (eqb-false _ _ (not-true _ yes) zero)) (λ some. omega (arith, some)) (cases_eq (bit_and led (bit_not w8 there)) 0))),
+    (λ m. not_from_false _ (ne_eqb _ _ (λ zero. none zero m))),
+  )
 
 -- other tests of the same statuses
 pub misses_as : (f g a b : ℕ → Bool) → ((t : ℕ) → f t ≡ a t) → ((t : ℕ) → g t ≡ b t) → Misses f g → Misses a b

@@ -51,15 +51,17 @@ row_of t mask m e s is h =
     let f = any_found (λ row. is_of_entry m e row && in_mask (mask row) s) t.part.bodies h in
     let both = and_parts (is_of_entry m e f.1) (in_mask (mask f.1) s) f.3 in
     let which = and_parts (f.1.method == m) (f.1.entry == e) both.0 in
-    let fits = is.fits.bodies f.0 f.1 (slice_get_within t.part.bodies f.0 f.1 f.2) in
-    (record {
-      number = f.0;
-      row = f.1;
-      there = f.2;
-      method = eqb-true f.1.method m which.0;
-      entry = eqb-true f.1.entry e which.1;
-      fits = rw (get_or_from_slice_get t.part.bodies f.0 f.1 f.1 f.2) at fits;
-    }, both.1)
+    let fits = is.fits.bodies f.0 f.1 (slice_get_within t.part.bodies f.0 f.1 f.2) in (
+      record {
+        number = f.0;
+        row = f.1;
+        there = f.2;
+        method = eqb-true f.1.method m which.0;
+        entry = eqb-true f.1.entry e which.1;
+        fits = rw (get_or_from_slice_get t.part.bodies f.0 f.1 f.1 f.2) at fits;
+      },
+      both.1,
+    )
 
 pub record IsAt (t : Case) (m e i : ℕ) : Type 0 where
   pub row : HasRow t m e

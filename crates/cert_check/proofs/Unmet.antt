@@ -99,10 +99,14 @@ module _ (t : Case) where
 
   pub component_some : (n : ℕ) (o : Option Violation) → NoneOf n → IsFirstCallback t n o → is_some o ≡ true → IsFirstOf t o
   component_some n None none first on = absurd (false≢true on)
-  component_some n (Some f) none first on = (first.1, rw first.0 first.2, (λ c k s before v. ⊎_elim
-      (λ lt. none c k s (rw first.0 at lt) v)
-      (λ z. first.3 k s z.1 (let same : c ≡ n = z.0 ∙ first.0 in rw same at v))
-      before))
+  component_some n (Some f) none first on = (
+    first.1,
+    rw first.0 first.2,
+    (λ c k s before v. ⊎_elim
+        (λ lt. none c k s (rw first.0 at lt) v)
+        (λ z. first.3 k s z.1 (let same : c ≡ n = z.0 ∙ first.0 in rw same at v))
+        before),
+  )
 
   pub component_none : IsCase t → (n : ℕ) → length t.subject.list ≤ n → NoneOf n → IsFirstOf t None
   component_none is n le none = λ c k s v. none c k s (let low = (violates_low t c k s is v).0 in omega arith) v

@@ -75,8 +75,10 @@ module _ (x : SubjectParts) (list : List ℕ) (dex : List (List ℕ)) (cert : Ce
             go Valid before = absurd (rest_of 5 _ before)
 
         closed : (l : ℕ) → l < slot_count x → IsClosed (Rules x l) (facts_at cert l)
-        closed l slot = record { by = λ needs f rule has. ⊎_elim (λ yes. yes) (λ off. absurd (let at = place_of x l rule in
-            none l (named_rule at.rule) at.a at.b at.c slot (record { needs = needs; fact = f; rule = rule; there = sym (ap (λ q. place q at.a at.b at.c) (rule_again at.rule)); has = has; lacks = off }))) (cases_Bool (facts_at cert l f)) }
+        closed l slot = record {
+          by = λ needs f rule has. ⊎_elim (λ yes. yes) (λ off. absurd (let at = place_of x l rule in
+              none l (named_rule at.rule) at.a at.b at.c slot (record { needs = needs; fact = f; rule = rule; there = sym (ap (λ q. place q at.a at.b at.c) (rule_again at.rule)); has = has; lacks = off }))) (cases_Bool (facts_at cert l f));
+        }
 
         pub accepted : IsAccepted x list dex cert
         accepted = record { list_digest = one; dex_digests = two; shape = fits; closed = closed; policy = λ l slot c k s v. met c k l s slot v }

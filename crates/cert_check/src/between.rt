@@ -28,16 +28,13 @@ fn moves_out(task: &Task, component: ComponentNo, edge: Edge, status: u8) -> boo
     requires status { status < 8 }
     ensures { IsTrue result ↔ MovesOut task.now component.0 edge status }
 {
-    misses(carried(task, component, edge, status), task.view(component, edge.to))
+    misses(
+        carried(task, component, edge, status),
+        task.view(component, edge.to),
+    )
 }
 
-fn starts_out(
-    task: &Task,
-    component: ComponentNo,
-    edge: Edge,
-    method: MethodNo,
-    status: u8,
-) -> bool
+fn starts_out(task: &Task, component: ComponentNo, edge: Edge, method: MethodNo, status: u8) -> bool
     requires method { IsEnterable task.now.subject method.0 }
     requires status { status < 8 }
     ensures { IsTrue result ↔ StartsOut task.now component.0 edge method.0 status }

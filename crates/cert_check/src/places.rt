@@ -99,11 +99,7 @@ fn first_with(rule: Rule, task: &Task, moves: &[u8], a: u32) -> Option<Found>
     task.told();
     for b in 0..8u8 {
         if let Some(c) = first_last(rule, task, moves, a, b) {
-            return Some(Found {
-                a,
-                b: b as u32,
-                c,
-            });
+            return Some(Found { a, b: b as u32, c });
         }
     }
     None

@@ -143,7 +143,14 @@ impl<'a> Site<'a> {
         ensures { result ≡ (masks_of self.now).passes self.now.entry.method self.now.index number status }
     {
         let lock = self.entered.task().lock();
-        pass_mask(lock, &self.act, &self.tags(), self.outside(), number, status)
+        pass_mask(
+            lock,
+            &self.act,
+            &self.tags(),
+            self.outside(),
+            number,
+            status,
+        )
     }
 
     /// The statuses with which it throws by itself.

@@ -24,8 +24,9 @@ returns-in-None-clause-verdict c =
 
 pub returns-in-None-clause-valid : goal.returns-in-None-clause-valid
 returns-in-None-clause-valid c = (
-    (λ same.
-    rw (← c.cert.view_is)
-    (accepted _ _ _ _ (c.is_digest.ensures.0 c.if-not-is_digest.false) (rw c.deref.ensures.value at c.in_default.ensures) (rw c.deref-2.ensures.value at c.in_default-first_unfit.ensures)
-    (rw c.deref-3.ensures.value at c.in_default-first_breach.ensures) (rw c.deref-4.ensures.value at c.in-None.ensures))),
-    (λ is. accepted_valid c.args.subject.now c.args.list.now c.args.dex.now c.args.cert.now _ (returns-in-None-clause-verdict c).says is))
+  (λ same.
+      rw (← c.cert.view_is)
+      (accepted _ _ _ _ (c.is_digest.ensures.0 c.if-not-is_digest.false) (rw c.deref.ensures.value at c.in_default.ensures) (rw c.deref-2.ensures.value at c.in_default-first_unfit.ensures)
+      (rw c.deref-3.ensures.value at c.in_default-first_breach.ensures) (rw c.deref-4.ensures.value at c.in-None.ensures))),
+  (λ is. accepted_valid c.args.subject.now c.args.list.now c.args.dex.now c.args.cert.now _ (returns-in-None-clause-verdict c).says is),
+)
