@@ -11,33 +11,46 @@ use Rattle.report_text.specs.Texts.{cannot_read_text, usage_text}
 use Rattle.nosleep.specs.declared.refusing.Answer.{Answer}
 use Rattle.nosleep.specs.Answer.{AreTakenTo, IsAnswer, many_files, read, too_long, unread, usage}
 use Rattle.nosleep.specs.Files.{AreSmall}
-use Rattle.nosleep.specs.Outcome.{FormHasOutcome}
+use Rattle.nosleep.specs.Outcome.{FormHasOutcome, judged_files}
 use Rattle.nosleep.specs.Refusals.{IsOver}
 use Rattle.nosleep.specs.Taking.{IsTooLong, StopsAt}
-use Rattle.nosleep.specs.Words.{FileName, Form, Receiver, Verify, dex_file, dex_names, files_of, form_of}
+use Rattle.nosleep.specs.Words.{FileName, Form, Receiver, Verify, Check, dex_file, list_file, dex_names, files_of, form_of}
 
--- no file of a form may be longer than a DEX file may
-small_limits : (form : Form) (k : ℕ) (d : FileName) → k < length (files_of form) → limit_of (get_or (files_of form) k d).limit ≤ 33554432
+-- no list and no DEX file of a form may be longer than a DEX file may
+in_files : (names : List (List ℕ)) (i : ℕ) → i < length (map dex_file names) → (d : FileName) → limit_of (get_or (map dex_file names) i d).limit ≤ 33554432
+in_files [] i less d = absurd (omega (arith, less))
+in_files (name ∷ names) zero less d = omega arith
+in_files (name ∷ names) (suc i) less d = in_files names i (omega (arith, less)) d
+
+small_limits : (form : Form) (k : ℕ) (d : FileName) → k < length (judged_files form (files_of form)) → limit_of (get_or (judged_files form (files_of form)) k d).limit ≤ 33554432
 small_limits (Receiver dex class) zero d lt = omega arith
 small_limits (Receiver dex class) (suc k) d lt = absurd (omega (arith, lt))
 small_limits (Verify list files) zero d lt = omega arith
-small_limits (Verify list files) (suc k) d lt = in_files files k (omega (arith, lt)) where
-  in_files : (names : List (List ℕ)) (i : ℕ) → i < length (map dex_file names) → limit_of (get_or (map dex_file names) i d).limit ≤ 33554432
-  in_files [] i less = absurd (omega (arith, less))
-  in_files (name ∷ names) zero less = omega arith
-  in_files (name ∷ names) (suc i) less = in_files names i (omega (arith, less))
+small_limits (Verify list files) (suc k) d lt = in_files files k (omega (arith, lt)) d
+small_limits (Check cert list files) zero d lt = omega arith
+small_limits (Check cert list files) (suc k) d lt = in_files files k (omega (arith, lt)) d
+
+-- files of these names have no more bytes than their limits
+small_files : (files : List FileName) (all : List (Vec ℕ Global)) → ((k : ℕ) (d : FileName) → k < length files → limit_of (get_or files k d).limit ≤ 33554432) → length all ≡ length files
+    → ((k : ℕ) (file : FileName) (bytes : Vec ℕ Global) → slice_get files k ≡ Some file → slice_get all k ≡ Some bytes → length bytes.items ≤ limit_of file.limit) → AreSmall all
+small_files files all small len each k d lt =
+    let at = slice_get-get_or files k (dex_file []) (omega (arith, lt, len)) in
+    let short = each k (get_or files k (dex_file [])) (get_or all k d) at (slice_get-get_or all k d lt) in
+    let low = small k (dex_file []) (omega (arith, lt, len)) in
+    let kept = (get_or all k d).ok in
+    omega (arith, short, low, kept)
 
 pub short_taken : (content : List ℕ → Option (List ℕ)) (form : Form) (files : List FileName) (all : List (Vec ℕ Global)) → files ≡ files_of form
-    → AreTakenTo content files (length files) (map (λ v. v.items) all) → AreSmall all
-short_taken content form files all same taken k d lt =
-    let len = length-map all (λ (v : Vec ℕ Global). v.items) in
-    let within : k < length files = omega (arith, lt, len, taken.len) in
-    let at = slice_get-get_or files k (dex_file []) within in
-    let there = slice_get-map (λ (v : Vec ℕ Global). v.items) all k ∙ ap (λ (o : Option (Vec ℕ Global)). option_map (λ v. v.items) o) (slice_get-get_or all k d lt) in
-    let short = (taken.each k (get_or files k (dex_file [])) (get_or all k d).items at there).limit in
-    let small = subst (λ (fs : List FileName). k < length fs → limit_of (get_or fs k (dex_file [])).limit ≤ 33554432) (sym same) (small_limits form k (dex_file [])) within in
-    let kept = (get_or all k d).ok in
-    omega (arith, short, small, kept)
+    → AreTakenTo content files (length files) (map (λ v. v.items) all) → AreSmall (judged_files form all)
+short_taken content form files all same taken = by_form form all (omega (arith, length-map all (λ (v : Vec ℕ Global). v.items), taken.len, ap length same))
+    (λ k file bytes there at. (taken.each k file bytes.items (rw same there) (slice_get-map (λ (v : Vec ℕ Global). v.items) all k ∙ ap (λ (o : Option (Vec ℕ Global)). option_map (λ v. v.items) o) at)).limit)
+  where
+    by_form : (form : Form) (all : List (Vec ℕ Global)) → length all ≡ length (files_of form)
+        → ((k : ℕ) (file : FileName) (bytes : Vec ℕ Global) → slice_get (files_of form) k ≡ Some file → slice_get all k ≡ Some bytes → length bytes.items ≤ limit_of file.limit) → AreSmall (judged_files form all)
+    by_form (Receiver dex class) all len each = small_files (files_of (Receiver dex class)) all (small_limits (Receiver dex class)) len each
+    by_form (Verify list dex) all len each = small_files (files_of (Verify list dex)) all (small_limits (Verify list dex)) len each
+    by_form (Check cert list dex) [] len each = absurd (omega (arith, len))
+    by_form (Check cert list dex) (one ∷ rest) len each = small_files (list_file list ∷ map dex_file dex) rest (small_limits (Check cert list dex)) (omega (arith, len)) (λ k file bytes there at. each (suc k) file bytes there at)
 
 module _ (words : List (List ℕ)) (content : List ℕ → Option (List ℕ)) (before now : ℕ) where
   -- an answer of this text and exit

@@ -16,7 +16,7 @@ use Rattle.nosleep.specs.Files.{ComesTo}
 use Rattle.nosleep.specs.Judged.{IsJudgement}
 use Rattle.nosleep.specs.Reading.{WhereTold}
 use Rattle.nosleep.specs.Refusals.{Refusal, IsRefused}
-use Rattle.nosleep.specs.Words.{FileName, Form, Receiver, Verify, dex_names, files_of, form_of}
+use Rattle.nosleep.specs.Words.{FileName, Form, Receiver, Verify, Check, dex_names, files_of, form_of}
 use Rattle.nosleep.specs.Writing.{WroteAll, WrotePart}
 
 -- ---- the files of a form
@@ -40,11 +40,17 @@ abbrev pub BytesComeTo : Form → List (List ℕ) → Result SubjectParts Refusa
 BytesComeTo (Receiver dex class) files result = ComesTo (Ok (one_receiver class)) files result
 BytesComeTo (Verify list dex) [] result = ⊥
 BytesComeTo (Verify list dex) (bytes ∷ files) result = ComesTo (listed_of bytes) files result
+BytesComeTo (Check cert list dex) [] result = ⊥
+BytesComeTo (Check cert list dex) (one ∷ []) result = ⊥
+BytesComeTo (Check cert list dex) (one ∷ bytes ∷ files) result = ComesTo (listed_of bytes) files result
 
 -- the exit and text of that: of a subject, the judgement of each that is in scope of its application and list
-abbrev pub IsOutcome : Result SubjectParts Refusal → List ℕ → Exit → Type 0
-IsOutcome (Ok x) text exit = (y : SubjectParts) → AreAlike x y → IsJudgement y text exit
-IsOutcome (Err refusal) text exit = IsRefused refusal text exit
+abbrev pub IsOutcomeBy : (SubjectParts → List ℕ → Exit → Type 0) → Result SubjectParts Refusal → List ℕ → Exit → Type 0
+IsOutcomeBy P (Ok x) text exit = (y : SubjectParts) → AreAlike x y → P y text exit
+IsOutcomeBy P (Err refusal) text exit = IsRefused refusal text exit
+
+abbrev pub IsOutcome : Form → List (List ℕ) → Result SubjectParts Refusal → List ℕ → Exit → Type 0
+IsOutcome form files result text exit = IsOutcomeBy (IsJudgement form files) result text exit
 
 -- ---- words and files
 -- The words and the files come to this text and exit. Before and now are the shelf's counts of faults. Want of memory
@@ -61,7 +67,7 @@ pub data IsAnswer (words : List (List ℕ)) (content : List ℕ → Option (List
       → slice_get (files_of form) i ≡ Some file → AreTakenTo content (files_of form) i all → WhereTold (content file.name) (λ bs. limit_of file.limit < length bs)
       → IsAnswer words content before now (over_limit_text file.limit) exits.Limit
   read : (form : Form) (all : List (List ℕ)) (result : Result SubjectParts Refusal) (text : List ℕ) (exit : Exit) → form_of words ≡ Some form
-      → length (dex_names form) ≤ limit_of Files → AreTakenTo content (files_of form) (length (files_of form)) all → BytesComeTo form all result → IsOutcome result text exit
+      → length (dex_names form) ≤ limit_of Files → AreTakenTo content (files_of form) (length (files_of form)) all → BytesComeTo form all result → IsOutcome form all result text exit
       → IsAnswer words content before now text exit
   starved : IsAnswer words content before now [] exits.Memory
 
@@ -84,6 +90,16 @@ pub record AreTold (content : List ℕ → Option (List ℕ)) (form : Form) (all
 abbrev pub AreJudged : Form → List (List ℕ) → SubjectParts → Type 0
 AreJudged form all x = BytesComeTo form all (Ok x)
 
--- an acceptance, and a report, is the judgement of the subject, and its text is written
-abbrev pub IsExact : SubjectParts → Exit → Option (List ℕ) → Option (List ℕ) → Type 0
-IsExact x exit before now = (exit ≡ exits.Accept) ⊎ (exit ≡ exits.Reports) → (text : List ℕ) × IsJudgement x text exit × WroteAll before now text
+-- the outside failed, or memory ran out
+abbrev pub IsFailure : Exit → Type 0
+IsFailure exit = (exit ≡ exits.ReadFault) ⊎ ((exit ≡ exits.WriteFault) ⊎ (exit ≡ exits.Memory))
+
+-- the exit is the judgement of the subject, whose text is written
+abbrev pub IsExact : Form → List (List ℕ) → SubjectParts → Exit → Option (List ℕ) → Option (List ℕ) → Type 0
+IsExact form all x exit before now = (text : List ℕ) × IsJudgement form all x text exit × WroteAll before now text
+
+-- the exits of a subject in scope, by form
+abbrev pub Judges : Form → Exit → Type 0
+Judges (Receiver dex class) exit = (exit ≡ exits.Accept) ⊎ (exit ≡ exits.Reports)
+Judges (Verify list dex) exit = (exit ≡ exits.Accept) ⊎ ((exit ≡ exits.Reports) ⊎ (exit ≡ exits.Limit))
+Judges (Check cert list dex) exit = (exit ≡ exits.Accept) ⊎ ((exit ≡ exits.Broken) ⊎ (exit ≡ exits.Bad))

@@ -1,5 +1,7 @@
 pub mod Answer
 pub mod Asked
+pub mod Certified
+pub mod Certifying
 pub mod Files
 pub mod Judged
 pub mod Outcome

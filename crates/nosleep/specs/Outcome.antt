@@ -1,5 +1,5 @@
 -- What the steps from bytes to an answer come to.
-use Rattle.std.specs.Prelude.{ℕ, ◌≡◌, ◌≢◌, List, [], Option, Some, None, Result}
+use Rattle.std.specs.Prelude.{ℕ, ◌≡◌, ◌≢◌, List, [], ◌∷◌, Option, Some, None, Result, Ok, Err}
 use Rattle.ns_base.specs.declared.answers.Counted.{Counted}
 use Rattle.ns_base.specs.declared.answers.Exit.{Exit}
 use Rattle.ns_base.specs.declared.answers.Exit.TheVariants as exits
@@ -18,18 +18,21 @@ use Rattle.call_targets.specs.declared.fault.TargetFault.{TargetFault}
 use Rattle.call_targets.specs.declared.fault.TargetFault.TheVariants as targets
 use Rattle.tag_flow.specs.declared.fault.TagFault.{TagFault}
 use Rattle.tag_flow.specs.declared.fault.TagFault.TheVariants as tags
-use Rattle.nosleep.specs.Refusals.{IsOver, Refusal}
-use Rattle.nosleep.specs.Words.{Form}
+use Rattle.nosleep.specs.Refusals.{IsOver, IsRefused, Refusal}
+use Rattle.nosleep.specs.Words.{Form, Receiver, Verify, Check}
 use Rattle.nosleep.specs.declared.contents.Contents.{Contents}
 use Rattle.nosleep.specs.declared.contents.Contents.TheVariants.{Read, Bad}
+use Rattle.nosleep.specs.declared.finding.Found.{Found}
+use Rattle.nosleep.specs.declared.finding.Found.TheVariants.{Subject, Refused}
 
--- a list and files come to something, which has this text and exit
-abbrev pub HasOutcome : Result (List ListedParts) ListFault → List (List ℕ) → List ℕ → Exit → Type 0
-HasOutcome listed files text exit = (result : Result SubjectParts Refusal) × ComesTo listed files result × IsOutcome result text exit
+-- a list and files come to a subject, or to a refusal, to which this is the answer
+abbrev pub HasFound : Result (List ListedParts) ListFault → List (List ℕ) → Found → Type 0
+HasFound listed files (Subject x) = ComesTo listed files (Ok x)
+HasFound listed files (Refused a) = (refusal : Refusal) × ComesTo listed files (Err refusal) × IsRefused refusal a.text.items a.exit
 
--- and the files of a form
+-- the files of a form come to something, which has this text and exit
 abbrev pub FormHasOutcome : Form → List (List ℕ) → List ℕ → Exit → Type 0
-FormHasOutcome form files text exit = (result : Result SubjectParts Refusal) × BytesComeTo form files result × IsOutcome result text exit
+FormHasOutcome form files text exit = (result : Result SubjectParts Refusal) × BytesComeTo form files result × IsOutcome form files result text exit
 
 abbrev pub HasContents : List (List ℕ) → Contents → Type 0
 HasContents files (Read parts) = AreContents files parts.items
@@ -53,8 +56,15 @@ abbrev pub IsTooMany : Option Counted → List ℕ → Exit → Type 0
 IsTooMany None text exit = ⊥
 IsTooMany (Some which) text exit = IsOver which text exit
 
--- the answer to the violations of an application
-abbrev pub IsTold : AppParts → List ComponentParts → List Violation → List ℕ → Exit → Type 0
-IsTold app list violations text exits.Accept = (text ≡ accept_text) × (violations ≡ [])
-IsTold app list violations text exits.Reports = (violations ≢ []) × (text ≡ heads_text app list violations)
-IsTold app list violations text _ = ⊥
+-- the answer to the violations of an application: their heads, where there are some
+abbrev pub IsReport : AppParts → List ComponentParts → List Violation → List ℕ → Exit → Type 0
+IsReport app list violations text exit = (exit ≡ exits.Reports) × (text ≡ heads_text app list violations)
+
+pub data IsTold (app : AppParts) (list : List ComponentParts) (violations : List Violation) (text : List ℕ) (exit : Exit) : Type 0 where
+  none : violations ≡ [] → text ≡ accept_text → exit ≡ exits.Accept → IsTold app list violations text exit
+  some : violations ≢ [] → IsReport app list violations text exit → IsTold app list violations text exit
+
+-- the files of a form that are judged: its list, where it names one, and its DEX files
+abbrev pub judged_files : {X : Type 0} → Form → List X → List X
+judged_files (Check cert list files) (one ∷ rest) = rest
+judged_files form all = all

@@ -3,7 +3,7 @@ use Rattle.std.specs.Prelude.{ℕ, List, [], ◌∷◌, map, Option, Some, None,
 use Rattle.std.specs.List.{starts_with}
 use Rattle.std.specs.Str.{bytes_eq}
 use Rattle.ns_base.specs.declared.answers.Counted.{Counted}
-use Rattle.ns_base.specs.declared.answers.Counted.TheVariants.{FileBytes, ListBytes}
+use Rattle.ns_base.specs.declared.answers.Counted.TheVariants.{CertBytes, FileBytes, ListBytes}
 
 -- what a command line asks for, its names as they stand there
 pub data Form : Type 0 where
@@ -11,10 +11,17 @@ pub data Form : Type 0 where
   Receiver : (dex class : List ℕ) → Form
   -- a component list, and at least one DEX file
   Verify : (list : List ℕ) (files : List (List ℕ)) → Form
+  -- a certificate, and the same
+  Check : (cert list : List ℕ) (files : List (List ℕ)) → Form
 
 abbrev pub verify_of : (list : List ℕ) → (files : List (List ℕ)) → Option Form
 verify_of list [] = None
 verify_of list (file ∷ files) = Some (Verify list (file ∷ files))
+
+abbrev pub check_of : (cert : List ℕ) → List (List ℕ) → Option Form
+check_of cert [] = None
+check_of cert (list ∷ []) = None
+check_of cert (list ∷ file ∷ files) = Some (Check cert list (file ∷ files))
 
 abbrev pub receiver_of : (dex : List ℕ) → List (List ℕ) → Option Form
 receiver_of dex [] = None
@@ -26,7 +33,8 @@ abbrev pub by_form : (form first : List ℕ) → List (List ℕ) → Option Form
 by_form form first rest =
     if starts_with nat_eq first (codes "--") then None
     else (if bytes_eq form (codes "verify") then verify_of first rest
-    else (if bytes_eq form (codes "receiver") then receiver_of first rest else None))
+    else (if bytes_eq form (codes "check") then check_of first rest
+    else (if bytes_eq form (codes "receiver") then receiver_of first rest else None)))
 
 -- the form of the words, the program's own name not among them
 abbrev pub form_of : List (List ℕ) → Option Form
@@ -41,11 +49,19 @@ pub record FileName : Type 0 where
 abbrev pub dex_file : List ℕ → FileName
 dex_file name = record { name = name; limit = FileBytes }
 
+abbrev pub list_file : List ℕ → FileName
+list_file name = record { name = name; limit = ListBytes }
+
+abbrev pub cert_file : List ℕ → FileName
+cert_file name = record { name = name; limit = CertBytes }
+
 abbrev pub dex_names : Form → List (List ℕ)
 dex_names (Receiver dex class) = dex ∷ []
 dex_names (Verify list files) = files
+dex_names (Check cert list files) = files
 
 -- the files of a form, in the order in which they are read
 abbrev pub files_of : Form → List FileName
 files_of (Receiver dex class) = dex_file dex ∷ []
-files_of (Verify list files) = record { name = list; limit = ListBytes } ∷ map dex_file files
+files_of (Verify list files) = list_file list ∷ map dex_file files
+files_of (Check cert list files) = cert_file cert ∷ list_file list ∷ map dex_file files

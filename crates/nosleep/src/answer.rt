@@ -1,5 +1,5 @@
 //! The answer to the words and files, before anything is written.
-ghost use Rattle.std.specs.Prelude.{◌≡◌, ◌≢◌, ◌≤◌, ◌<◌, [], ◌∷◌, map, length, string_bytes, IfOk};
+ghost use Rattle.std.specs.Prelude.{◌≡◌, ◌≢◌, ◌≤◌, ◌<◌, ℕ, List, [], ◌∷◌, map, length, string_bytes, IfOk};
 ghost use Rattle.ns_base.specs.Answers.{limit_of};
 ghost use Rattle.ns_base.specs.declared.answers.Counted.TheVariants.{Files};
 ghost use Rattle.ns_base.specs.declared.answers.Exit.TheVariants as exits;
@@ -7,12 +7,15 @@ ghost use Rattle.component_list.specs.Listed.{IsReadList};
 ghost use Rattle.nosleep.specs.Answer.{IsAnswer, one_receiver};
 ghost use Rattle.nosleep.specs.Asked.{form_by};
 ghost use Rattle.nosleep.specs.Files.{AreSmall};
-ghost use Rattle.nosleep.specs.Outcome.{FormHasOutcome};
+ghost use Rattle.nosleep.specs.Outcome.{FormHasOutcome, judged_files};
 ghost use Rattle.nosleep.specs.Reading.{KeepsShelf};
-ghost use Rattle.nosleep.specs.Words.{dex_names, files_of};
+ghost use Rattle.nosleep.specs.Words.{Check, Receiver, Verify, dex_names, files_of};
 
+use crate::certifying::certify;
+use crate::checking::check_bytes;
 use crate::files::{Taken, names_of, take_files};
-use crate::judging::{answer_list, answer_listed};
+use crate::finding::{Found, find_by_list, find_listed};
+use crate::judging::judge;
 use crate::refusing::{Answer, over};
 use crate::words::{Asked, asked_by};
 use app_model::Kind;
@@ -57,7 +60,7 @@ fn dex_count(asked: Asked<'_>) -> usize
 {
     match asked {
         Asked::Receiver { .. } => 1,
-        Asked::Verify { files, .. } => files.len(),
+        Asked::Verify { files, .. } | Asked::Check { files, .. } => files.len(),
     }
 }
 
@@ -65,18 +68,64 @@ fn dex_count(asked: Asked<'_>) -> usize
 fn answer_files(alloc: Global, asked: Asked<'_>, files: &[Vec<u8>]) -> Result<Answer, AllocError>
     requires few { length (dex_names (form_by asked)) ≤ 16 }
     requires each { length files.now ≡ length (files_of (form_by asked)) }
-    requires short { AreSmall files.now }
+    requires short { AreSmall (judged_files (form_by asked) files.now) }
     ensures { IfOk result (λ a. FormHasOutcome (form_by asked.entry) (map (λ bytes. bytes.items) files.now) a.text.items a.exit) }
 {
     match asked {
-        Asked::Receiver { class, .. } => {
-            let listed = one_receiver(alloc, class)?;
-            answer_listed(alloc, &listed, files)
-        }
-        Asked::Verify { .. } => match files.split_first() {
-            Some((list, files)) => answer_list(alloc, list, files),
-            None => Err(AllocError),
+        Asked::Receiver { class, .. } => answer_receiver(alloc, class, files),
+        Asked::Verify { .. } => match files {
+            [list, dex @ ..] => answer_verify(alloc, list, dex),
+            _ => Err(AllocError),
         },
+        Asked::Check { .. } => match files {
+            [cert, list, dex @ ..] => answer_check(alloc, cert, list, dex),
+            _ => Err(AllocError),
+        },
+    }
+}
+
+// The answer to a DEX file under a list of the one receiver of this class.
+fn answer_receiver(alloc: Global, class: &str, files: &[Vec<u8>]) -> Result<Answer, AllocError>
+    requires few { length files.now ≤ 16 }
+    requires short { AreSmall files.now }
+    ensures { (dex : List ℕ) → IfOk result (λ a. FormHasOutcome (Receiver dex class.now) (map (λ bytes. bytes.items) files.now) a.text.items a.exit) }
+{
+    let listed = one_receiver(alloc, class)?;
+    match find_listed(alloc, &listed, files)? {
+        Found::Subject(subject) => judge(alloc, &subject),
+        Found::Refused(answer) => Ok(answer),
+    }
+}
+
+// The answer to the bytes of a list and of DEX files.
+fn answer_verify(alloc: Global, list: &[u8], files: &[Vec<u8>]) -> Result<Answer, AllocError>
+    requires list { length list.now ≤ 33554432 }
+    requires few { length files.now ≤ 16 }
+    requires short { AreSmall files.now }
+    ensures { (one : List ℕ) (dex : List (List ℕ)) → IfOk result (λ a. FormHasOutcome (Verify one dex) (list.now ∷ map (λ bytes. bytes.items) files.now) a.text.items a.exit) }
+{
+    match find_by_list(alloc, list, files)? {
+        Found::Subject(subject) => certify(alloc, &subject, list, files),
+        Found::Refused(answer) => Ok(answer),
+    }
+}
+
+// The answer to the bytes of a certificate, of a list and of DEX files. What they come to is refused before the
+// certificate's text.
+fn answer_check(
+    alloc: Global,
+    cert: &[u8],
+    list: &[u8],
+    files: &[Vec<u8>],
+) -> Result<Answer, AllocError>
+    requires list { length list.now ≤ 33554432 }
+    requires few { length files.now ≤ 16 }
+    requires short { AreSmall files.now }
+    ensures { (one two : List ℕ) (dex : List (List ℕ)) → IfOk result (λ a. FormHasOutcome (Check one two dex) (cert.now ∷ list.now ∷ map (λ bytes. bytes.items) files.now) a.text.items a.exit) }
+{
+    match find_by_list(alloc, list, files)? {
+        Found::Subject(subject) => check_bytes(alloc, &subject, cert, list, files),
+        Found::Refused(answer) => Ok(answer),
     }
 }
 

@@ -3,7 +3,7 @@ ghost use Rattle.std.specs.Prelude.{◌≡◌, ◌++◌, map, string_bytes, IfOk
 ghost use Rattle.nosleep.specs.Asked.{form_by};
 ghost use Rattle.nosleep.specs.Reading.{KeepsShelf};
 ghost use Rattle.nosleep.specs.Taking.{HasTaken};
-ghost use Rattle.nosleep.specs.Words.{dex_file, files_of};
+ghost use Rattle.nosleep.specs.Words.{dex_file, files_of, list_file};
 
 use crate::reading::{Reading, read_whole};
 use crate::words::Asked;
@@ -37,6 +37,15 @@ pub enum Taken {
     Fault(usize),
 }
 
+fn list_file(name: &str) -> FileName<'_>
+    ensures { result ≡ list_file name.now }
+{
+    FileName {
+        name,
+        limit: Counted::ListBytes,
+    }
+}
+
 // Adds the DEX files.
 fn push_dex_names<'a>(names: &mut Vec<FileName<'a>>, files: &'a [String]) -> Result<(), AllocError>
     ensures { IfOk result (λ _. names.new.items ≡ names.old.items ++ map dex_file (map string_bytes files.now)) }
@@ -61,10 +70,15 @@ pub fn names_of<'a>(alloc: Global, asked: Asked<'a>) -> Result<Vec<FileName<'a>>
             limit: Counted::FileBytes,
         })?,
         Asked::Verify { list, files } => {
+            names.push(list_file(list))?;
+            push_dex_names(&mut names, files)?;
+        }
+        Asked::Check { cert, list, files } => {
             names.push(FileName {
-                name: list,
-                limit: Counted::ListBytes,
+                name: cert,
+                limit: Counted::CertBytes,
             })?;
+            names.push(list_file(list))?;
             push_dex_names(&mut names, files)?;
         }
     }

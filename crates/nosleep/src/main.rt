@@ -4,8 +4,11 @@
 
 mod adapters;
 mod answer;
+mod certifying;
+mod checking;
 mod contents;
 mod files;
+mod finding;
 mod judging;
 mod reading;
 mod refusing;

@@ -83,7 +83,8 @@ fn name_in(alloc: Global, files: &[Vec<u8>], file: u32, row: u32) -> Result<Vec<
     }
 }
 
-fn bad(text: Vec<u8>) -> Answer
+/// The answer to what is read and is not as it should be.
+pub fn bad(text: Vec<u8>) -> Answer
     ensures { (result.exit ≡ exits.Bad) × (result.text ≡ text) }
 {
     Answer {

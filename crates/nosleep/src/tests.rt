@@ -1,15 +1,17 @@
 //! What no clause says: the answers to whole command lines, and the real outside.
 use crate::adapters::{FileShelf, Output};
 use crate::top::nosleep;
+use certs::{CERTS, LEAKING, ROWS, certificate};
 use dex_bytes::adler32;
 use lists::{BAD_LISTS, LIST, LISTS, List};
 use ns_base::{Exit, Failed, Shelf, Sink};
 use ns_memory::{MemoryShelf, MemorySink};
-use rows::{ACCEPTED, JUDGED, MAKE, OUTSIDE, R, REFUSED, RETURN, Row, Told, WORKS};
+use rows::{ACCEPTED, HANDLES, JUDGED, MAKE, OUTSIDE, R, REFUSED, RETURN, Row, TRY, Told, WORKS};
 use std::alloc::{AllocError, Global};
 use std::fs;
 use std::test::Fail;
 
+mod certs;
 mod layout;
 mod lists;
 mod rows;
@@ -29,7 +31,7 @@ const HELP: Told = (
 );
 
 // Words over the sample `a`, the empty file `e` and the list `l`, and the answer.
-static ANSWERS: [(&[&str], Told); 15] = [
+static ANSWERS: [(&[&str], Told); 19] = [
     (&["receiver", "a", "Lapp/R;"], ACCEPTED),
     (
         &["receiver", "e", "Lapp/R;"],
@@ -48,7 +50,20 @@ static ANSWERS: [(&[&str], Told); 15] = [
     (&["receiver", "a"], HELP),
     (&["verify", "a"], HELP),
     (&["verify", "--x", "l", "a"], HELP),
-    (&["verify", "l", "a"], ACCEPTED),
+    (&["check", "l", "a"], HELP),
+    (&["check", "--x", "l", "a"], HELP),
+    (
+        &["check", "e", "l", "a"],
+        (Exit::Bad, "bad certificate line 1\n"),
+    ),
+    (
+        &["check", "e", "l", "e"],
+        (Exit::Bad, "bad dex 0 Short 0\n"),
+    ),
+    (
+        &["check", "x", "l", "a"],
+        (Exit::ReadFault, "cannot read x\n"),
+    ),
     (
         &["verify", "l", "a", "a"],
         (Exit::Bad, "bad link DuplicateClass Lapp/R; 1 0\n"),
@@ -95,18 +110,72 @@ fn shelf_of(alloc: Global, file: &[u8], fail: &[u64]) -> Result<MemoryShelf, Fai
     shelf_with(alloc, LIST, file, fail)
 }
 
-// Whether a run ends so, and the sink then holds this text.
-fn is_told(
+// Whether a run ends so, and the sink then holds these bytes.
+fn writes(
     alloc: Global,
     words: &[&str],
     mut shelf: MemoryShelf,
     mut sink: MemorySink,
-    told: &Told,
+    exit: Exit,
+    bytes: &[u8],
 ) -> Result<bool, Fail> {
     let words = texts(alloc, words)?;
     let mut watchers = Vec::new(alloc);
-    let exit = nosleep(alloc, &words, &mut shelf, &mut sink, &mut watchers);
-    Ok(exit == told.0 && sink.bytes() == told.1.as_bytes())
+    let ended = nosleep(alloc, &words, &mut shelf, &mut sink, &mut watchers);
+    Ok(ended == exit && sink.bytes() == bytes)
+}
+
+fn is_told(
+    alloc: Global,
+    words: &[&str],
+    shelf: MemoryShelf,
+    sink: MemorySink,
+    told: &Told,
+) -> Result<bool, Fail> {
+    writes(alloc, words, shelf, sink, told.0, told.1.as_bytes())
+}
+
+// Whether `verify` writes the sample's certificate, under a list that names it.
+fn certifies(alloc: Global, list: &str, file: &[u8], fail: &[u64]) -> Result<bool, Fail> {
+    let cert = certificate(alloc, list.as_bytes(), file, ROWS)?;
+    let shelf = shelf_with(alloc, list, file, fail)?;
+    let sink = MemorySink::new(alloc, 1000, 1000, Vec::new(alloc))?;
+    writes(alloc, &["verify", "l", "a"], shelf, sink, Exit::Accept, &cert)
+}
+
+// Whether `check` answers so to these rows over a file.
+fn checks(alloc: Global, list: &str, file: &[u8], rows: &str, told: &Told) -> Result<bool, Fail> {
+    let mut shelf = shelf_with(alloc, list, file, &[])?;
+    let cert = certificate(alloc, LIST.as_bytes(), file, rows)?;
+    shelf.add(String::from_str(alloc, "c")?, cert)?;
+    let sink = MemorySink::new(alloc, 1000, 1000, Vec::new(alloc))?;
+    is_told(alloc, &["check", "c", "l", "a"], shelf, sink, told)
+}
+
+#[test]
+fn a_certificate_is_checked_line_by_line_and_rule_by_rule(rt: HostRuntime) -> Result<(), Fail> {
+    let alloc = rt.alloc();
+    let file = layout::dex(alloc, &R, WORKS)?;
+    for (shows, rows, told) in CERTS.iter() {
+        assert!(rt; checks(alloc, LIST, &file, rows, told)?, "{shows}");
+    }
+    Ok(())
+}
+
+#[test]
+fn a_certificate_is_of_one_list_and_one_file(rt: HostRuntime) -> Result<(), Fail> {
+    let alloc = rt.alloc();
+    let file = layout::dex(alloc, &R, WORKS)?;
+    let list = [LIST, "\n"].concat(alloc)?;
+    let told = (Exit::Broken, "broken digest list\n");
+    assert!(rt; checks(alloc, &list, &file, ROWS, &told)?);
+    let leaking = layout::dex(alloc, &TRY, HANDLES)?;
+    let told = (
+        Exit::Broken,
+        "unmet Lapp/R;->wl is C1 after Lapp/R;->onReceive\n",
+    );
+    assert!(rt; checks(alloc, LIST, &leaking, LEAKING, &told)?);
+    Ok(())
 }
 
 // The same over a file with a sink that takes all.
@@ -169,7 +238,11 @@ fn first_wrong_list(alloc: Global, lists: &[List]) -> Result<Option<&'static str
     for (shows, list, told) in lists.iter() {
         let sink = MemorySink::new(alloc, 1000, 1000, Vec::new(alloc))?;
         let shelf = shelf_with(alloc, list, &file, &[])?;
-        if !is_told(alloc, &["verify", "l", "a"], shelf, sink, told)? {
+        let is = match told {
+            None => certifies(alloc, list, &file, &[])?,
+            Some(told) => is_told(alloc, &["verify", "l", "a"], shelf, sink, told)?,
+        };
+        if !is {
             return Ok(Some(*shows));
         }
     }
@@ -192,17 +265,17 @@ fn bad_lists_are_refused_by_name_and_place(rt: HostRuntime) -> Result<(), Fail> 
 fn the_file_that_fails_is_named(rt: HostRuntime) -> Result<(), Fail> {
     let alloc = rt.alloc();
     let file = layout::dex(alloc, &R, WORKS)?;
-    for call in 0..7u64 {
+    for call in 0..6u64 {
         let told = match call {
             0..=1 => (Exit::ReadFault, "cannot read l\n"),
-            2..=5 => UNREAD,
-            _ => ACCEPTED,
+            _ => UNREAD,
         };
         assert!(rt;
             tells(alloc, &["verify", "l", "a"], &file, &[call], &told)?,
             "call {call}"
         );
     }
+    assert!(rt; certifies(alloc, LIST, &file, &[6])?);
     Ok(())
 }
 

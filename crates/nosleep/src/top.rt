@@ -2,7 +2,7 @@
 ghost use Rattle.std.specs.Prelude.{◌≡◌, ◌≢◌, ◌⊎◌, ℕ, List, Some, map, string_bytes};
 ghost use Rattle.ns_base.specs.Outside.{Rose};
 ghost use Rattle.nosleep.specs.Words.{Form, form_of};
-ghost use Rattle.nosleep.specs.Answer.{AreJudged, AreTold, IsAnswer, IsEnd, IsExact};
+ghost use Rattle.nosleep.specs.Answer.{AreJudged, AreTold, IsAnswer, IsEnd, IsExact, IsFailure, Judges};
 ghost use Rattle.nosleep.specs.Reading.{KeepsShelf};
 ghost use Rattle.app_model.specs.Subject.{SubjectParts};
 ghost use Rattle.nosleep.specs.Judged.{IsSafe};
@@ -33,20 +33,20 @@ pub fn nosleep<F: Shelf, K: Sink>(
     // After want of memory nothing was written.
     ensures memory { result ≡ Exit.Memory → out.new ≡ out.old }
 
-    // After accepted files no run of the machine leaves a lock held.
+    // After accepted files no run of the machine leaves a lock held: by the solver's answer, or by any certificate.
     ensures sound { result ≡ Exit.Accept → (form : Form) (all : List (List ℕ)) → form_of (map string_bytes words.now) ≡ Some form
         → AreTold (F.content shelf.old) form all → (x : SubjectParts) × AreJudged form all x × IsSafe x }
 
-    // Told files are accepted only where the rules derive no violation, and reported only with the violations that they
-    // derive: for each subject that the files come to.
+    // Unless the outside failed or memory ran out, told files that come to a subject are answered by its judgement, for each
+    // subject that they come to.
     ensures exact { (form : Form) (all : List (List ℕ)) (x : SubjectParts) → form_of (map string_bytes words.now) ≡ Some form
-        → AreTold (F.content shelf.old) form all → AreJudged form all x → IsExact x result (K.taken out.old) (K.taken out.new) }
+        → AreTold (F.content shelf.old) form all → AreJudged form all x → IsFailure result ⊎ IsExact form all x result (K.taken out.old) (K.taken out.new) }
 
-    // Told files that can be judged are accepted or reported, unless the outside failed or memory ran out.
+    // Told files that come to a subject are judged, unless the outside failed or memory ran out.
     ensures complete { (form : Form) (all : List (List ℕ)) (x : SubjectParts) → form_of (map string_bytes words.now) ≡ Some form
         → AreTold (F.content shelf.old) form all → AreJudged form all x
         → ¬ Rose (F.faults shelf.old) (F.faults shelf.new) → ¬ Rose (K.faults out.old) (K.faults out.new)
-        → (result ≡ Exit.Accept) ⊎ ((result ≡ Exit.Reports) ⊎ (result ≡ Exit.Memory)) }
+        → Judges form result ⊎ (result ≡ Exit.Memory) }
 
     // What the shelf tells stays, and no watcher is touched.
     ensures shelf { KeepsShelf F.content F.faults shelf.old shelf.new }

@@ -1,6 +1,6 @@
 //! The words of the command line.
 ghost use Rattle.std.specs.Prelude.{◌≡◌, map, string_bytes, Option, Some, option_map};
-ghost use Rattle.nosleep.specs.Words.{by_form, form_of, receiver_of, verify_of};
+ghost use Rattle.nosleep.specs.Words.{by_form, check_of, form_of, receiver_of, verify_of};
 ghost use Rattle.nosleep.specs.Asked.{form_by};
 
 /// What the words ask for, its names as they stand there.
@@ -10,6 +10,12 @@ pub enum Asked<'a> {
     Receiver { dex: &'a str, class: &'a str },
     /// A component list, and at least one DEX file.
     Verify { list: &'a str, files: &'a [String] },
+    /// A certificate, and the same.
+    Check {
+        cert: &'a str,
+        list: &'a str,
+        files: &'a [String],
+    },
 }
 
 // A component list, and at least one DEX file.
@@ -20,6 +26,22 @@ fn verify_of<'a>(list: &'a str, files: &'a [String]) -> Option<Asked<'a>>
         None
     } else {
         Some(Asked::Verify { list, files })
+    }
+}
+
+// A certificate, a component list, and at least one DEX file.
+fn check_of<'a>(cert: &'a str, words: &'a [String]) -> Option<Asked<'a>>
+    ensures { option_map form_by result ≡ check_of cert.now (map string_bytes words.now) }
+{
+    let (list, files) = words.split_first()?;
+    if files.is_empty() {
+        None
+    } else {
+        Some(Asked::Check {
+            cert,
+            list: list.as_str(),
+            files,
+        })
     }
 }
 
@@ -43,6 +65,8 @@ fn by_form<'a>(form: &str, first: &'a str, rest: &'a [String]) -> Option<Asked<'
         None
     } else if form == "verify" {
         verify_of(first, rest)
+    } else if form == "check" {
+        check_of(first, rest)
     } else if form == "receiver" {
         receiver_of(first, rest)
     } else {

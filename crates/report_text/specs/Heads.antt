@@ -25,11 +25,14 @@ callback_text app list c k = callback_of app (slice_get list c) k
 abbrev pub no_violation : Violation
 no_violation = record { component = 0; callback = 0; lock = 0; status = 0 }
 
+-- which lock field is at which status after which callback
+unfoldable pub violation_text : AppParts → List ComponentParts → Violation → List ℕ
+violation_text app list v =
+    lock_text app v.lock ++ codes " is " ++ status_name v.status ++ codes " after " ++ callback_text app list v.component v.callback
+
 -- report i of n
 unfoldable pub head_text : AppParts → List ComponentParts → (i n : ℕ) → Violation → List ℕ
-head_text app list i n v =
-    line (codes "report " ++ decimal i ++ codes " of " ++ decimal n ++ codes ": " ++ lock_text app v.lock ++ codes " is "
-    ++ status_name v.status ++ codes " after " ++ callback_text app list v.component v.callback)
+head_text app list i n v = line (codes "report " ++ decimal i ++ codes " of " ++ decimal n ++ codes ": " ++ violation_text app list v)
 
 -- the heads of the first i of some violations
 abbrev pub heads_before : AppParts → List ComponentParts → List Violation → ℕ → List ℕ

@@ -7,3 +7,4 @@ pub mod LinkFaults
 pub mod ListFaults
 pub mod Limits
 pub mod Refusals
+pub mod Verdicts

@@ -2,7 +2,7 @@
 ghost use Rattle.std.specs.Prelude.{◌≡◌, ◌<◌, ◌+◌, ◌++◌, length, slice_get, slice_index_or, codes, IfOk, []};
 ghost use Rattle.app_model.specs.Components.{callbacks_of};
 ghost use Rattle.report_text.specs.Heads as spec;
-ghost use Rattle.report_text.specs.Heads.{callback_text, head_text, heads_before, no_violation, status_name};
+ghost use Rattle.report_text.specs.Heads.{callback_text, head_text, heads_before, no_violation, status_name, violation_text};
 
 use crate::numbers::push_decimal;
 use app_model::{App, ComponentRow, Kind, push_member};
@@ -44,13 +44,26 @@ fn push_head(
     text.extend_from_slice(b" of ")?;
     push_decimal(alloc, text, violations.len())?;
     text.extend_from_slice(b": ")?;
+    push_violation(text, app, list, violation)?;
+    text.push(b'\n')?;
+    Ok(())
+}
+
+/// Adds which lock field is at which status after which callback.
+#[tactic(auto, unfolding(crate::specs::Heads::violation_text))]
+pub fn push_violation(
+    text: &mut Vec<u8>,
+    app: &App,
+    list: &[ComponentRow],
+    violation: Violation,
+) -> Result<(), AllocError>
+    ensures { IfOk result (λ _. text.new.items ≡ text.old.items ++ violation_text app.now list.now violation) }
+{
     app.push_lock(text, LockNo(violation.lock))?;
     text.extend_from_slice(b" is ")?;
     text.extend_from_slice(name_of_status(violation.status))?;
     text.extend_from_slice(b" after ")?;
-    push_callback(text, app, list, violation.component, violation.callback)?;
-    text.push(b'\n')?;
-    Ok(())
+    push_callback(text, app, list, violation.component, violation.callback)
 }
 
 #[tactic(auto, unfolding(crate::specs::Heads::callback_text))]

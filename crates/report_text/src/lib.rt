@@ -5,6 +5,7 @@
 //! - `dex_faults`, `code_faults`, `link_faults` and `list_faults` have the refusals of files, whose numbers `numbers`
 //!   writes.
 //! - `limits` has the refusal of a count, `refusals` that of an application out of scope.
+//! - `verdicts` has the answers to a certificate.
 #![tactic(auto)]
 
 mod code_faults;
@@ -16,6 +17,7 @@ mod list_faults;
 mod numbers;
 mod refusals;
 mod texts;
+mod verdicts;
 
 pub use code_faults::bad_code;
 pub use dex_faults::bad_dex;
@@ -25,6 +27,7 @@ pub use link_faults::bad_link;
 pub use list_faults::bad_list;
 pub use refusals::refused;
 pub use texts::{accept, cannot_read, usage};
+pub use verdicts::{bad_certificate, checked_text};
 
 #[cfg(test)]
 mod tests;

@@ -13,5 +13,5 @@ mod moving;
 mod solving;
 
 pub use judging::violations;
-pub use listing::all_violations;
-pub use solving::solve;
+pub use listing::{all_violations, bad_masks, list_violations};
+pub use solving::{solve, solve_lock};

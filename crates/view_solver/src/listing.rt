@@ -2,16 +2,19 @@
 //! statuses are kept at which callbacks end badly.
 ghost use Rattle.std.specs.Prelude.{◌≡◌, ◌<◌, ℕ, ◌+◌, ◌*◌, IfOk, length, map};
 ghost use Rattle.app_model.specs.Subject.{slot_count};
-ghost use Rattle.flow_model.specs.Policy.{AreViolations, IsDerivableViolation};
+ghost use Rattle.flow_model.specs.Derived.{IsLeast};
+ghost use Rattle.flow_model.specs.Policy.{AreViolations, IsDerivableViolation, none_given};
+ghost use Rattle.flow_model.specs.Rules.{Rules};
+ghost use Rattle.solution.specs.Facts.{HasPlaces, holds};
 ghost use Rattle.solution.specs.Words.{IsMask};
 ghost use Rattle.solver.specs.Turns.{AreFacts};
 ghost use Rattle.view_solver.specs.Reported.{HasLeast, AreAllMasks, AreLockMasks, AreMasksTo, AreReported};
 
 use crate::edges::component_count;
 use crate::judging::{bad_ends, push_if};
-use crate::solving::solve;
+use crate::solving::solve_lock;
 use app_model::Subject;
-use flow_model::{StatusRows, Violation};
+use flow_model::Violation;
 use ns_base::{ComponentNo, LockNo, OutOfMemory};
 use solution::Solution;
 use std::alloc::{AllocError, Global};
@@ -51,17 +54,33 @@ fn masks_of(
     Ok(masks)
 }
 
-// The same by the least solution, which is let go then.
-fn lock_masks(alloc: Global, subject: &Subject, lock: LockNo) -> Result<Vec<u8>, AllocError>
-    requires { lock.0 < slot_count subject.now }
+/// Of each component and callback the statuses at which it ends badly, by the least solution for a lock field: eight masks a
+/// component, one for each callback.
+pub fn bad_masks(
+    alloc: Global,
+    subject: &Subject,
+    lock: LockNo,
+    solution: &Solution,
+) -> Result<Vec<u8>, OutOfMemory>
+    requires lock { lock.0 < slot_count subject.now }
+    requires places { HasPlaces subject.now solution.now }
+    requires least { IsLeast (Rules subject.now lock.0) none_given (holds solution.now) }
     ensures { IfOk result (λ masks. AreLockMasks subject.now lock.0 masks.items) }
 {
     subject.told();
-    let mut rows = StatusRows::new();
-    match solve(alloc, subject, lock, &mut rows) {
-        Ok(solution) => masks_of(alloc, subject, lock, &solution),
-        Err(OutOfMemory) => Err(AllocError),
+    match masks_of(alloc, subject, lock, solution) {
+        Ok(masks) => Ok(masks),
+        Err(AllocError) => Err(OutOfMemory),
     }
+}
+
+// One lock field's; its solution is let go then.
+fn lock_masks(alloc: Global, subject: &Subject, lock: LockNo) -> Result<Vec<u8>, OutOfMemory>
+    requires { lock.0 < slot_count subject.now }
+    ensures { IfOk result (λ masks. AreLockMasks subject.now lock.0 masks.items) }
+{
+    let solution = solve_lock(alloc, subject, lock)?;
+    bad_masks(alloc, subject, lock, &solution)
 }
 
 fn all_masks(alloc: Global, subject: &Subject) -> Result<Vec<Vec<u8>>, AllocError>
@@ -70,7 +89,10 @@ fn all_masks(alloc: Global, subject: &Subject) -> Result<Vec<Vec<u8>>, AllocErro
     let locks = subject.lock_count();
     let mut all = Vec::with_capacity(alloc, locks as usize)?;
     for lock in 0..locks {
-        all.push(lock_masks(alloc, subject, LockNo(lock))?)?;
+        match lock_masks(alloc, subject, LockNo(lock)) {
+            Ok(masks) => all.push(masks)?,
+            Err(OutOfMemory) => return Err(AllocError),
+        }
     }
     Ok(all)
 }
@@ -170,18 +192,31 @@ fn list_all(alloc: Global, subject: &Subject, all: &[Vec<u8>]) -> Result<Vec<Vio
     Ok(found)
 }
 
-/// The violations that the flow rules derive for a subject, of every lock field, in the order of reports: component,
-/// callback, lock, status. Then there is a least solution for each lock field.
+/// The violations that the flow rules derive for a subject, in the order of reports: component, callback, lock, status.
+/// `all` has the masks of each lock field by its least solution, as `bad_masks` gives them.
+pub fn list_violations(
+    alloc: Global,
+    subject: &Subject,
+    all: &[Vec<u8>],
+) -> Result<Vec<Violation>, OutOfMemory>
+    requires { AreAllMasks subject.now (slot_count subject.now) (map (λ masks. masks.items) all.now) }
+    ensures exact { IfOk result (λ found. AreViolations subject.now found.items) }
+    ensures least { (l : ℕ) → l < slot_count subject.now → HasLeast subject.now l }
+{
+    subject.told();
+    match list_all(alloc, subject, all) {
+        Ok(found) => Ok(found),
+        Err(AllocError) => Err(OutOfMemory),
+    }
+}
+
+/// The same, where nothing is solved yet: there is a least solution for each lock field, which is let go.
 pub fn all_violations(alloc: Global, subject: &Subject) -> Result<Vec<Violation>, OutOfMemory>
     ensures exact { IfOk result (λ found. AreViolations subject.now found.items) }
     ensures least { IfOk result (λ found. (l : ℕ) → l < slot_count subject.now → HasLeast subject.now l) }
 {
-    subject.told();
-    let Ok(all) = all_masks(alloc, subject) else {
-        return Err(OutOfMemory);
-    };
-    match list_all(alloc, subject, &all) {
-        Ok(found) => Ok(found),
+    match all_masks(alloc, subject) {
+        Ok(all) => list_violations(alloc, subject, &all),
         Err(AllocError) => Err(OutOfMemory),
     }
 }

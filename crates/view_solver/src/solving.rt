@@ -3,7 +3,7 @@ ghost use Rattle.std.specs.Prelude.{◌≡◌, ◌<◌, IfOk, OnOk};
 ghost use Rattle.app_model.specs.Subject.{slot_count};
 ghost use Rattle.flow_model.specs.Derived.{Either, IsLeast};
 ghost use Rattle.flow_model.specs.Policy.{none_given};
-ghost use Rattle.flow_model.specs.Rules.{Inner, Between, Carries};
+ghost use Rattle.flow_model.specs.Rules.{Inner, Between, Carries, Rules};
 ghost use Rattle.solution.specs.Facts.{holds, HasPlaces};
 ghost use Rattle.solver.specs.Turns.{AreFacts, IsBelow, Keeps};
 ghost use Rattle.solver.specs.Visits.{AreLed};
@@ -11,7 +11,7 @@ ghost use Rattle.view_solver.specs.Views.{Whole, WholeBy};
 
 use crate::moving::move_all;
 use app_model::Subject;
-use flow_model::Rows;
+use flow_model::{Rows, StatusRows};
 use ns_base::{LockNo, OutOfMemory};
 use solution::Solution;
 use solver::{Task, Worklist, approach_calls, settle};
@@ -79,4 +79,17 @@ pub fn solve<R: Rows>(
     move_all(subject, lock, &mut solution);
     solve_rounds(&task, rows, &mut solution, &mut worklist)?;
     Ok(solution)
+}
+
+/// The least solution of the flow rules for a lock field, by the rules of statuses.
+pub fn solve_lock(
+    alloc: Global,
+    subject: &Subject,
+    lock: LockNo,
+) -> Result<Solution, OutOfMemory>
+    requires { lock.0 < slot_count subject.now }
+    ensures least { IfOk result (λ solution. IsLeast (Rules subject.now lock.0) none_given (holds solution)) }
+    ensures places { IfOk result (λ solution. HasPlaces subject.now solution) }
+{
+    solve(alloc, subject, lock, &mut StatusRows::new())
 }

@@ -80,7 +80,7 @@ pub const R: Class = Class {
 };
 
 // One try, of the three units at 22, with a handler at 31.
-const TRY: Class = Class {
+pub const TRY: Class = Class {
     tail: &[22, 0, 0, 0, 3, 0, 1, 0, 1, 1, 11, 31],
     ..R
 };
@@ -142,7 +142,7 @@ pub const WORKS: &[&[u16]] = &[MAKE, PUT, GET, ACQUIRE, GET, RELEASE, RETURN];
 const LEAKS: &[&[u16]] = &[MAKE, PUT, GET, ACQUIRE, RETURN];
 
 // What the handler of a try does follows the return.
-const HANDLES: &[&[u16]] = &[
+pub const HANDLES: &[&[u16]] = &[
     MAKE,
     PUT,
     GET,

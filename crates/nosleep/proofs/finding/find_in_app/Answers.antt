@@ -2,11 +2,11 @@ use Rattle.std.proofs.Common.{refl, Ok}
 use Rattle.component_list.specs.Binding.{bound_of}
 use Rattle.nosleep.specs.Files.{unbound}
 use Rattle.nosleep.proofs.Judgements.{list_outcome}
-use Rattle.nosleep.proofs.judging.answer_app.Goals as goal
+use Rattle.nosleep.proofs.finding.find_in_app.Goals as goal
 
 pub returns-in-Ok-bind_list : goal.returns-in-Ok-bind_list
 returns-in-Ok-bind_list c = λ files is.
-    c.answer_bound.ensures c.args.listed.now files is c.in-Ok-bind_list.ensures.exact
+    c.find_bound.ensures c.args.listed.now files is c.in-Ok-bind_list.ensures.exact
 
 pub returns-in-Err-bind_list : goal.returns-in-Err-bind_list
 returns-in-Err-bind_list c = λ files is.

@@ -3,10 +3,10 @@ use Rattle.app_link.specs.Linking.{IsLinked}
 use Rattle.nosleep.specs.Files.{bad_link, named_by}
 use Rattle.nosleep.specs.Refusals.{InLink}
 use Rattle.nosleep.proofs.Judgements.{has_outcome}
-use Rattle.nosleep.proofs.judging.answer_parts.Goals as goal
+use Rattle.nosleep.proofs.finding.find_in_parts.Goals as goal
 
 pub returns-in-Ok : goal.returns-in-Ok
-returns-in-Ok c = c.answer_app.ensures (map (λ v. v.items) c.args.files.now) (record { contents = c.args.parts.items; read = c.requires.contents; linked = c.in-Ok.ensures.linked })
+returns-in-Ok c = c.find_in_app.ensures (map (λ v. v.items) c.args.files.now) (record { contents = c.args.parts.items; read = c.requires.contents; linked = c.in-Ok.ensures.linked })
 
 pub returns-in-Err : goal.returns-in-Err
 returns-in-Err c =

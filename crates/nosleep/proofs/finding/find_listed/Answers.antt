@@ -2,7 +2,7 @@ use Rattle.std.proofs.Common.{refl, map, Ok, Err}
 use Rattle.nosleep.specs.Files.{bad_file}
 use Rattle.nosleep.specs.Refusals.{InFile}
 use Rattle.nosleep.proofs.Judgements.{has_outcome}
-use Rattle.nosleep.proofs.judging.answer_listed.Goals as goal
+use Rattle.nosleep.proofs.finding.find_listed.Goals as goal
 
 pub returns-in-Bad : goal.returns-in-Bad
 returns-in-Bad c =

@@ -2,7 +2,7 @@ use Rattle.std.proofs.Common.{map}
 use Rattle.component_list.specs.Reading.{listed_of}
 use Rattle.nosleep.specs.Files.{bad_list}
 use Rattle.nosleep.proofs.Judgements.{list_outcome}
-use Rattle.nosleep.proofs.judging.answer_list.Goals as goal
+use Rattle.nosleep.proofs.finding.find_by_list.Goals as goal
 
 pub returns-in-Err : goal.returns-in-Err
 returns-in-Err c =

@@ -1,0 +1,109 @@
+//! The answer of `verify` to a subject in scope: the certificate of its least solutions, or the heads of its violations.
+ghost use Rattle.std.specs.Prelude.{◌<◌, ◌+◌, length, map, IfOk};
+ghost use Rattle.app_model.specs.Subject.{SubjectParts, slot_count};
+ghost use Rattle.one_scope.specs.Alike.{AreAlike};
+ghost use Rattle.nosleep.specs.Judged.{IsVerified};
+ghost use Rattle.nosleep.specs.Certifying.{IsSolvedTo, IsWritten};
+
+use crate::checking::digests_of;
+use crate::judging::report;
+use crate::refusing::{Answer, over};
+use app_model::Subject;
+use cert_laws::{accepted_certificates, alike_verdicts, written_certificates};
+use certificate::{Certificate, LockPart, lock_part, write_certificate};
+use ns_base::{Counted, Exit, LockNo, OutOfMemory, limit};
+use run_model::tagged_soundness;
+use sha1::Sha1;
+use std::alloc::{AllocError, Global};
+use view_solver::{bad_masks, list_violations, solve_lock};
+
+/// What the least solutions of lock fields give: of each the statuses at which callbacks end badly, and its part of the
+/// certificate.
+#[derive(Drop)]
+pub struct Solved {
+    pub masks: Vec<Vec<u8>>,
+    pub parts: Vec<LockPart>,
+}
+
+// Solves one more lock field. Its solution is let go then.
+fn add_lock(
+    alloc: Global,
+    subject: &Subject,
+    lock: LockNo,
+    solved: &mut Solved,
+) -> Result<(), OutOfMemory>
+    requires lock { lock.0 < slot_count subject.now }
+    requires before { IsSolvedTo subject.now lock.0 solved.old }
+    ensures { IfOk result (λ done. IsSolvedTo subject.now (lock.0 + 1) solved.new) }
+{
+    written_certificates();
+    let solution = solve_lock(alloc, subject, lock)?;
+    let masks = bad_masks(alloc, subject, lock, &solution)?;
+    let part = lock_part(alloc, subject, lock, &solution)?;
+    solved.masks.push(masks)?;
+    solved.parts.push(part)?;
+    Ok(())
+}
+
+fn solve_all(alloc: Global, subject: &Subject) -> Result<Solved, OutOfMemory>
+    ensures { IfOk result (IsSolvedTo subject.now (slot_count subject.now)) }
+{
+    subject.told();
+    written_certificates();
+    let mut solved = Solved {
+        masks: Vec::new(alloc),
+        parts: Vec::new(alloc),
+    };
+    for lock in 0..subject.lock_count() {
+        add_lock(alloc, subject, LockNo(lock), &mut solved)?;
+    }
+    Ok(solved)
+}
+
+/// The answer of `verify` to a subject in scope, from a list and DEX files of these bytes.
+pub fn certify(
+    alloc: Global,
+    subject: &Subject,
+    list: &[u8],
+    files: &[Vec<u8>],
+) -> Result<Answer, AllocError>
+    requires { 0 < length files.now }
+    ensures { IfOk result (λ a. (y : SubjectParts) → AreAlike subject.now y → IsVerified list.now (map (λ bytes. bytes.items) files.now) y a.text.items a.exit) }
+{
+    subject.told();
+    tagged_soundness();
+    alike_verdicts();
+    written_certificates();
+    accepted_certificates();
+    let Ok(solved) = solve_all(alloc, subject) else {
+        return Err(AllocError);
+    };
+    let Ok(found) = list_violations(alloc, subject, &solved.masks) else {
+        return Err(AllocError);
+    };
+    if !found.is_empty() {
+        return report(alloc, subject, &found);
+    }
+    let cert = Certificate {
+        list: Sha1::digest(list),
+        dex: digests_of(alloc, files)?,
+        locks: solved.parts,
+    };
+    write(alloc, &cert)
+}
+
+// The text of a certificate, where it is short enough.
+fn write(alloc: Global, cert: &Certificate) -> Result<Answer, AllocError>
+    ensures { IfOk result (λ a. IsWritten cert.now a.text.items a.exit) }
+{
+    let Ok(text) = write_certificate(alloc, cert) else {
+        return Err(AllocError);
+    };
+    if text.len() as u64 > limit(Counted::CertBytes) {
+        return over(alloc, Counted::CertBytes);
+    }
+    Ok(Answer {
+        exit: Exit::Accept,
+        text,
+    })
+}
