@@ -1,0 +1,7 @@
+pub mod Places
+pub mod Alike
+pub mod Rows
+pub mod Fits
+pub mod Names
+pub mod Written
+pub mod Accepted
