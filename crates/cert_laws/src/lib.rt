@@ -5,6 +5,7 @@
 //! - `Alike`: so a certificate has one verdict over both.
 //! - `Rows`: the rows of a least solution have its facts, and no other.
 //! - `Fits`: they fit the subject; `Names`: their name is part of the text.
+//! - `Digests`: SHA-1 digests have 20 bytes.
 //! - `Written`: so the certificate of least solutions without violations is accepted, and has a text.
 //! - `Accepted`: what is accepted has no other verdict than that it is valid, and the rules derive no violation.
 #![tactic(auto)]
@@ -20,6 +21,7 @@ ghost use Rattle.cert_check.specs.declared.verdict.Checked.{Checked};
 ghost use Rattle.cert_check.specs.declared.verdict.Checked.TheVariants.{Valid};
 ghost use Rattle.flow_model.specs.Policy.{AreViolations};
 ghost use Rattle.one_scope.specs.Alike.{AreAlike};
+ghost use Rattle.sha1.specs.Sha1.{sha1};
 ghost use Rattle.cert_laws.specs.Solved.{AreSolved, IsSolved};
 
 /// Subjects in scope of one application and list have the same verdict on each certificate, and accept the same ones.
@@ -29,10 +31,12 @@ pub fn alike_verdicts()
 {}
 
 /// The certificate of the least solutions of a subject without violations is accepted with the digests that it has, and has
-/// a text. Lock fields whose shown names are longer than any text that is read are none of this.
+/// a text. That text is to be shorter than 2^32 bytes, since the checker takes no longer name of a lock field.
 pub fn written_certificates()
     ensures accepted { (x : SubjectParts) (cert : CertParts) → IsSubject x → AreViolations x [] → AreSolved x (slot_count x) cert.locks → length (certificate_text cert) < 2 ^ 32 → IsAccepted x cert.list cert.dex cert }
     ensures text { (x : SubjectParts) (cert : CertParts) → IsSubject x → AreSolved x (slot_count x) cert.locks → IsDigest cert.list → All IsDigest cert.dex → 0 < length cert.dex → IsCert cert }
+    // SHA-1 digests are such.
+    ensures digest { (m : List ℕ) → IsDigest (sha1 m) }
     // Parts are put one by one.
     ensures none { (x : SubjectParts) → AreSolved x 0 [] }
     ensures next { (x : SubjectParts) (n : ℕ) (parts : List LockRows) (part : LockRows) → AreSolved x n parts → IsSolved x n part → AreSolved x (n + 1) (parts ++ part ∷ []) }

@@ -1,3 +1,4 @@
+use Rattle.cert_laws.proofs.Digests.{is_digest}
 use Rattle.cert_laws.proofs.Written.{has_text, is_accepted, one_more}
 use Rattle.cert_laws.proofs.written_certificates.Goals as goal
 
@@ -9,3 +10,6 @@ returns-clause-text c = λ x cert sound are list dex some. has_text x cert sound
 
 pub returns-clause-next : goal.returns-clause-next
 returns-clause-next c = one_more
+
+pub returns-clause-digest : goal.returns-clause-digest
+returns-clause-digest c = is_digest
