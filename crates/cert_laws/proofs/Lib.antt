@@ -5,4 +5,5 @@ pub mod Fits
 pub mod Names
 pub mod Digests
 pub mod Written
+pub mod One
 pub mod Accepted

@@ -7,6 +7,7 @@
 //! - `Fits`: they fit the subject; `Names`: their name is part of the text.
 //! - `Digests`: SHA-1 digests have 20 bytes.
 //! - `Written`: so the certificate of least solutions without violations is accepted, and has a text.
+//! - `One`: a certificate has one verdict.
 //! - `Accepted`: what is accepted has no other verdict than that it is valid, and the rules derive no violation.
 #![tactic(auto)]
 
@@ -40,6 +41,11 @@ pub fn written_certificates()
     // Parts are put one by one.
     ensures none { (x : SubjectParts) → AreSolved x 0 [] }
     ensures next { (x : SubjectParts) (n : ℕ) (parts : List LockRows) (part : LockRows) → AreSolved x n parts → IsSolved x n part → AreSolved x (n + 1) (parts ++ part ∷ []) }
+{}
+
+/// A certificate has no two verdicts over one subject.
+pub fn one_verdict()
+    ensures { (x : SubjectParts) (list : List ℕ) (dex : List (List ℕ)) (cert : CertParts) (a b : Checked) → IsVerdict x list dex cert a → IsVerdict x list dex cert b → a ≡ b }
 {}
 
 /// What is accepted is valid, and then the rules derive no violation.
