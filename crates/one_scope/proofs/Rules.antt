@@ -37,13 +37,13 @@ module _ (x y : SubjectParts) (left : IsInScope x) (right : IsInScope (beside x 
   z = beside x y
 
   -- ---- what the rules ask of an instruction and of an edge
-  own_over : (m i : ℕ) (b : Bool) → own_operation x l m i ≡ b → own_operation z l m i ≡ b
+  pub own_over : (m i : ℕ) (b : Bool) → own_operation x l m i ≡ b → own_operation z l m i ≡ b
   own_over m i b is = ap (own_by l (act_at x.app m i)) (sym (rows x y left right m i)) ∙ is
 
-  open_over : (m i s : ℕ) → is_open x l m i s ≡ true → is_open z l m i s ≡ true
+  pub open_over : (m i s : ℕ) → is_open x l m i s ≡ true → is_open z l m i s ≡ true
   open_over m i s is = ap (λ (row : List Tag). open_by l (act_at x.app m i) row s) (sym (rows x y left right m i)) ∙ is
 
-  among_over : (m i : ℕ) (n : MethodNo) → Contains (callees_at x m i) n → Contains (callees_at z m i) n
+  pub among_over : (m i : ℕ) (n : MethodNo) → Contains (callees_at x m i) n → Contains (callees_at z m i) n
   among_over = callee_over x.graph y.graph (targets x y left right)
 
   abbrev masks_by : ((m i : ℕ) → List Tag) → ((m i : ℕ) → Bool) → Masks
@@ -52,16 +52,16 @@ module _ (x y : SubjectParts) (left : IsInScope x) (right : IsInScope (beside x 
     throws = λ m i s. mask_throws l (act_at x.app m i) (tags m i) (leads m i) s;
   }
 
-  same_masks : status_masks x l ≡ status_masks z l
+  pub same_masks : status_masks x l ≡ status_masks z l
   same_masks =
       ap (λ (tags : (m i : ℕ) → List Tag). masks_by tags (outside_at x.graph)) (fun_ext (λ m. fun_ext (λ i. rows x y left right m i)))
       ∙ ap (masks_by (row_at y.tags)) (fun_ext (λ m. fun_ext (λ i. ap (λ (set : TargetParts). set.outside) ((targets x y left right).at m i))))
 
-  same_entered : (c : ℕ) (edge : Edge) (s : ℕ) → entered x l c edge s ≡ entered z l c edge s
+  pub same_entered : (c : ℕ) (edge : Edge) (s : ℕ) → entered x l c edge s ≡ entered z l c edge s
   same_entered c edge s = ap (λ (owner : Option ℕ). if edge.creates && is_owner owner c then reset s else s) (same_owner x y left right l)
 
   -- ---- each rule of the one is a rule of the other
-  inside_over : {masks : Masks} {needs : List Fact} {f : Fact} → Inside x l masks needs f → Inside z l masks needs f
+  unfoldable pub inside_over : {masks : Masks} {needs : List Fact} {f : Fact} → Inside x l masks needs f → Inside z l masks needs f
   inside_over (I1 {m = m} {i = i} k own to may) = I1 k (own_over m i _ own) to may
   inside_over (I1_return back) = I1_return back
   inside_over (I2 {m = m} {i = i} k own to may) = I2 k (own_over m i _ own) to may
@@ -76,12 +76,12 @@ module _ (x y : SubjectParts) (left : IsInScope x) (right : IsInScope (beside x 
   starts_over (V3 {c = c} {q = q} {s = s} {m = m} {edge = edge} e there from callback) =
       subst (λ (n : ℕ). Starts z l (View c q s ∷ []) (At m n 0 n)) (sym (same_entered c edge s)) (V3 e there from callback)
 
-  carries_over : {c s t : ℕ} {edge : Edge} {needs : List Fact} → Carries x l c edge s t needs → Carries z l c edge s t needs
+  pub carries_over : {c s t : ℕ} {edge : Edge} {needs : List Fact} → Carries x l c edge s t needs → Carries z l c edge s t needs
   carries_over {c = c} {s = s} {edge = edge} (outside none is) = outside none (is ∙ same_entered c edge s)
   carries_over {c = c} {s = s} {t = t} {edge = edge} (by_method m there) =
       subst (λ (n : ℕ). Carries z l c edge s t (Ret m n t ∷ [])) (sym (same_entered c edge s)) (by_method m there)
 
-  between_over : {needs : List Fact} {f : Fact} → Between x (Carries x l) needs f → Between z (Carries z l) needs f
+  unfoldable pub between_over : {needs : List Fact} {f : Fact} → Between x (Carries x l) needs f → Between z (Carries z l) needs f
   between_over (V1 below) = V1 below
   between_over (V2 e there from to none carried) = V2 e there from to none (carries_over carried)
   between_over (V4 e m there from to callback carried) = V4 e m there from to callback (carries_over carried)
@@ -95,7 +95,7 @@ module _ (x y : SubjectParts) (left : IsInScope x) (right : IsInScope (beside x 
   derived_over : (given : Set) (fs : List Fact) → Derived (Rules x l) given fs → Derived (Rules z l) given fs
   derived_over given fs d = wider (Rules x l) (Rules z l) rules_over given d
 
-  violation_over : (P Q : List Fact → Type 0) → ((fs : List Fact) → P fs → Q fs) → (c k s : ℕ) → IsViolation x (Carries x l) l P c k s → IsViolation z (Carries z l) l Q c k s
+  pub violation_over : (P Q : List Fact → Type 0) → ((fs : List Fact) → P fs → Q fs) → (c k s : ℕ) → IsViolation x (Carries x l) l P c k s → IsViolation z (Carries z l) l Q c k s
   unfolding slot_count
   violation_over P Q hold c k s v = record {
     state = v.state;
