@@ -1,9 +1,16 @@
 -- What holds of a subject in scope holds of each that is alike: its violations, and what soundness asks of its tags.
-use Rattle.std.proofs.Common.{◌≡◌, ℕ, ◌<◌, ◌*◌, Bool, true, List, length, if◌then◌else◌, sym, ap, ◌∙◌, subst}
+use Rattle.std.proofs.Common.{◌≡◌, ℕ, ◌<◌, ◌*◌, Bool, true, List, [], ◌∷◌, ◌++◌, length, if◌then◌else◌, sym, ap, ap₂, refl, ◌∙◌, subst}
+use Rattle.std.specs.List.{flat_map}
 use Rattle.app_model.specs.Parts.{AppParts}
 use Rattle.app_model.specs.Subject.{AreReached, IsSubject, SubjectParts, answers_at, is_reached, owner_at, slot_count}
 use Rattle.app_model.specs.TagTable.{FitsReached, width_at}
 use Rattle.app_model.specs.Words.{code_len}
+use Rattle.app_model.specs.Shown.{lock_text}
+use Rattle.cert_laws.specs.Solved.{AreSolved}
+use Rattle.cert_line.specs.Parts.{BodyParts}
+use Rattle.certificate.specs.Parts.{CertParts}
+use Rattle.certificate.specs.Solved.{code_bodies, component_views, method_bodies, numbers_below, part_of}
+use Rattle.flow_model.specs.Derived.{Set}
 use Rattle.flow_model.specs.declared.policy.Violation.{Violation}
 use Rattle.flow_model.specs.InScope.{IsInScope}
 use Rattle.flow_model.specs.Policy.{AreViolations, none_given}
@@ -15,7 +22,9 @@ use Rattle.one_scope.proofs.Owners.{answers_for_over, beside, in_scope, is_secon
 use Rattle.one_scope.proofs.Rules.{same_least, same_violations}
 use Rattle.run_model.specs.Tagged.{IsFollowed, IsTagged}
 use Rattle.run_model.proofs.Scope.{scope_tagged}
+use Rattle.solution.specs.Facts.{holds}
 use Rattle.view_solver.specs.Reported.{HasLeast}
+use Rattle.nosleep.specs.Certified.{IsCertificateOf}
 
 -- ---- violations
 back : (x y : SubjectParts) → AreAlike x y → AreAlike y x
@@ -126,3 +135,34 @@ module _ (x y : SubjectParts) (sound : IsSubject x) (left : IsInScope x) (right 
 
 pub tagged_over : (x y : SubjectParts) → IsSubject x → AreAlike x y → IsTagged y
 tagged_over x y sound alike = subst IsTagged (is_second x y alike) (tagged x y sound alike.first (in_scope x y alike))
+
+-- ---- the certificate of a subject is that of each that is alike
+flat_same : {A B : Type 0} (f g : A → List B) → ((a : A) → f a ≡ g a) → (xs : List A) → flat_map f xs ≡ flat_map g xs
+flat_same f g same [] = refl
+flat_same f g same (x ∷ xs) = ap₂ (λ (ys zs : List B). ys ++ zs) (same x) (flat_same f g same xs)
+
+module _ (x y : SubjectParts) (alike : AreAlike x y) where
+  same_bodies : (set : Set) (m : ℕ) → method_bodies x set m ≡ method_bodies (beside x y) set m
+  unfolding method_bodies
+  same_bodies set m =
+      ap (λ (b : Bool). if b then code_bodies set m (code_len x.app m) else [])
+      (same_reach x.graph y.graph (targets x y alike.first (in_scope x y alike)) x.list (is_reached x) (is_reached (beside x y)) alike.first.reached (in_scope x y alike).reached m)
+
+  same_part : (l : ℕ) (set : Set) → part_of x l set ≡ part_of y l set
+  same_part l set =
+      ap (λ (bodies : List BodyParts). record { name = lock_text x.app l; views = flat_map (component_views set) (numbers_below (length x.list)); bodies = bodies })
+      (flat_same (method_bodies x set) (method_bodies (beside x y) set) (same_bodies set) (numbers_below (length x.app.methods)))
+      ∙ ap (λ (z : SubjectParts). part_of z l set) (is_second x y alike)
+
+  pub certificate_over : (list : List ℕ) (dex : List (List ℕ)) (cert : CertParts) → cert.list ≡ list → cert.dex ≡ dex → AreSolved x (slot_count x) cert.locks → IsCertificateOf y list dex cert
+  unfolding slot_count
+  certificate_over list dex cert one all solved = record {
+    list_digest = one;
+    dex_digests = all;
+    parts = record {
+      len = solved.len ∙ ap (λ (app : AppParts). length app.locks) alike.app;
+      each = λ l part there.
+          let has = solved.each l part there in
+          record { set = holds has.facts; least = same_least x y alike l none_given (holds has.facts) has.least; rows = has.rows ∙ same_part l (holds has.facts) };
+    };
+  }

@@ -110,7 +110,7 @@ judgement_exit (Verify list dex) (bytes ∷ files) x text exit (IsVerified.repor
 judgement_exit (Verify list dex) (bytes ∷ files) x text exit (certified is e) = inl e
 judgement_exit (Verify list dex) (bytes ∷ files) x text exit (overlong is e) = inr (inr e)
 judgement_exit (Check cert list dex) (one ∷ bytes ∷ files) x text exit (IsChecked.unread n wrong t e) = inr (inr e)
-judgement_exit (Check cert list dex) (one ∷ bytes ∷ files) x text exit (IsChecked.read c is t on) = ⊎_elim (λ e. inl (on.exit ∙ e)) (λ e. inr (inl (on.exit ∙ e))) (verdict_exit on.checked)
+judgement_exit (Check cert list dex) (one ∷ bytes ∷ files) x text exit (IsChecked.read c is t on) = ⊎_elim (λ e. inl (on.ends ∙ e)) (λ e. inr (inl (on.ends ∙ e))) (verdict_exit on.checked)
 
 is_valid : (checked : Checked) → exit_of checked ≡ exits.Accept → checked ≡ Valid
 is_valid Valid e = refl
@@ -127,7 +127,7 @@ judgement_safe (Verify list dex) (bytes ∷ files) x text exit here (IsVerified.
 judgement_safe (Verify list dex) (bytes ∷ files) x text exit here (certified is e) = is.accepted.1
 judgement_safe (Verify list dex) (bytes ∷ files) x text exit here (overlong is e) = absurd (let no : exits.Accept ≡ exits.Limit = sym here ∙ e in cc)
 judgement_safe (Check cert list dex) (one ∷ bytes ∷ files) x text exit here (IsChecked.unread n wrong t e) = absurd (let no : exits.Accept ≡ exits.Bad = sym here ∙ e in cc)
-judgement_safe (Check cert list dex) (one ∷ bytes ∷ files) x text exit here (IsChecked.read c is t on) = on.safe (is_valid on.checked (sym on.exit ∙ here))
+judgement_safe (Check cert list dex) (one ∷ bytes ∷ files) x text exit here (IsChecked.read c is t on) = on.safe (is_valid on.checked (sym on.ends ∙ here))
 
 -- an accepted subject is safe
 accepted_safe : (form : Form) (all : List (List ℕ)) (r : Result SubjectParts Refusal) (text : List ℕ) → BytesComeTo form all r → IsOutcome form all r text exits.Accept → (x : SubjectParts) × (r ≡ Ok x) × IsSafe x

@@ -19,6 +19,6 @@ pub record AreParts (x : SubjectParts) (n : ℕ) (parts : List LockRows) : Type 
   pub each : (l : ℕ) (part : LockRows) → slice_get parts l ≡ Some part → HasPart x l part
 
 pub record IsCertificateOf (x : SubjectParts) (list : List ℕ) (dex : List (List ℕ)) (cert : CertParts) : Type 0 where
-  pub list : cert.list ≡ list
-  pub dex : cert.dex ≡ dex
+  pub list_digest : cert.list ≡ list
+  pub dex_digests : cert.dex ≡ dex
   pub parts : AreParts x (slot_count x) cert.locks

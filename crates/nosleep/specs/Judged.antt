@@ -50,8 +50,8 @@ exit_of checked = exits.Broken
 pub record IsVerdictOn (cert : CertParts) (list : List ℕ) (dex : List (List ℕ)) (x : SubjectParts) (text : List ℕ) (exit : Exit) : Type 0 where
   pub checked : Checked
   pub verdict : IsVerdict x (sha1 list) (map sha1 dex) cert checked
-  pub text : text ≡ checked_text x.app x.list checked
-  pub exit : exit ≡ exit_of checked
+  pub says : text ≡ checked_text x.app x.list checked
+  pub ends : exit ≡ exit_of checked
   pub safe : checked ≡ Valid → IsSafe x
 
 -- the first wrong line, or the verdict
@@ -63,7 +63,7 @@ pub data IsChecked (cert list : List ℕ) (dex : List (List ℕ)) (x : SubjectPa
 pub record IsCertified (list : List ℕ) (dex : List (List ℕ)) (x : SubjectParts) (text : List ℕ) : Type 0 where
   pub cert : CertParts
   pub solved : IsCertificateOf x (sha1 list) (map sha1 dex) cert
-  pub text : text ≡ certificate_text cert
+  pub spells : text ≡ certificate_text cert
   pub short : length text ≤ limit_of CertBytes
   pub accepted : IsAccepted x
   pub checks : IsChecked text list dex x valid_text exits.Accept
@@ -74,7 +74,7 @@ pub record IsOverlong (list : List ℕ) (dex : List (List ℕ)) (x : SubjectPart
   pub solved : IsCertificateOf x (sha1 list) (map sha1 dex) cert
   pub long : limit_of CertBytes < length (certificate_text cert)
   pub accepted : IsAccepted x
-  pub text : text ≡ over_limit_text CertBytes
+  pub says : text ≡ over_limit_text CertBytes
 
 pub data IsVerified (list : List ℕ) (dex : List (List ℕ)) (x : SubjectParts) (text : List ℕ) (exit : Exit) : Type 0 where
   reports : HasHeads text x → exit ≡ exits.Reports → IsVerified list dex x text exit

@@ -1,7 +1,9 @@
 //! The answer of `verify` to a subject in scope: the certificate of its least solutions, or the heads of its violations.
 ghost use Rattle.std.specs.Prelude.{◌<◌, ◌+◌, length, map, IfOk};
 ghost use Rattle.app_model.specs.Subject.{SubjectParts, slot_count};
+ghost use Rattle.cert_laws.specs.Solved.{IsSolved};
 ghost use Rattle.one_scope.specs.Alike.{AreAlike};
+ghost use Rattle.view_solver.specs.Reported.{AreLockMasks};
 ghost use Rattle.nosleep.specs.Judged.{IsVerified};
 ghost use Rattle.nosleep.specs.Certifying.{IsSolvedTo, IsWritten};
 
@@ -25,39 +27,40 @@ pub struct Solved {
     pub parts: Vec<LockPart>,
 }
 
-// Solves one more lock field. Its solution is let go then.
-fn add_lock(
+// The masks and the part of one lock field. Its solution is let go then.
+fn solve_one(
     alloc: Global,
     subject: &Subject,
     lock: LockNo,
-    solved: &mut Solved,
-) -> Result<(), OutOfMemory>
-    requires lock { lock.0 < slot_count subject.now }
-    requires before { IsSolvedTo subject.now lock.0 solved.old }
-    ensures { IfOk result (λ done. IsSolvedTo subject.now (lock.0 + 1) solved.new) }
+) -> Result<(Vec<u8>, LockPart), OutOfMemory>
+    requires { lock.0 < slot_count subject.now }
+    ensures masks { IfOk result (λ pair. AreLockMasks subject.now lock.0 pair.0.items) }
+    ensures part { IfOk result (λ pair. IsSolved subject.now lock.0 pair.1) }
 {
-    written_certificates();
+    subject.told();
     let solution = solve_lock(alloc, subject, lock)?;
     let masks = bad_masks(alloc, subject, lock, &solution)?;
     let part = lock_part(alloc, subject, lock, &solution)?;
-    solved.masks.push(masks)?;
-    solved.parts.push(part)?;
-    Ok(())
+    Ok((masks, part))
 }
 
-fn solve_all(alloc: Global, subject: &Subject) -> Result<Solved, OutOfMemory>
+fn solve_all(alloc: Global, subject: &Subject) -> Result<Solved, AllocError>
     ensures { IfOk result (IsSolvedTo subject.now (slot_count subject.now)) }
 {
     subject.told();
     written_certificates();
-    let mut solved = Solved {
-        masks: Vec::new(alloc),
-        parts: Vec::new(alloc),
-    };
+    let mut masks = Vec::new(alloc);
+    let mut parts = Vec::new(alloc);
     for lock in 0..subject.lock_count() {
-        add_lock(alloc, subject, LockNo(lock), &mut solved)?;
+        match solve_one(alloc, subject, LockNo(lock)) {
+            Ok((mask, part)) => {
+                masks.push(mask)?;
+                parts.push(part)?;
+            }
+            Err(OutOfMemory) => return Err(AllocError),
+        }
     }
-    Ok(solved)
+    Ok(Solved { masks, parts })
 }
 
 /// The answer of `verify` to a subject in scope, from a list and DEX files of these bytes.
@@ -75,9 +78,7 @@ pub fn certify(
     alike_verdicts();
     written_certificates();
     accepted_certificates();
-    let Ok(solved) = solve_all(alloc, subject) else {
-        return Err(AllocError);
-    };
+    let solved = solve_all(alloc, subject)?;
     let Ok(found) = list_violations(alloc, subject, &solved.masks) else {
         return Err(AllocError);
     };

@@ -10,7 +10,7 @@ use Rattle.app_model.specs.Parts.{AppParts}
 use Rattle.app_model.specs.Shown.{lock_text}
 use Rattle.app_model.specs.Slots.{class_text}
 use Rattle.flow_model.specs.declared.policy.Violation.{Violation}
-use Rattle.report_text.specs.Heads.{callback_text, head_text, heads_text}
+use Rattle.report_text.specs.Heads.{callback_text, head_text, heads_text, violation_text}
 
 abbrev lock_field : (name : ℕ) → FieldRow
 lock_field name = record { class = record { 0 = 0 }; name = record { 0 = name }; kind = record { 0 = 1 }; flags = 8 }
@@ -38,5 +38,5 @@ violations =
 
 two_heads : heads_text sample (component Receiver ∷ component Service ∷ []) violations
     ≡ codes "report 1 of 2: Lapp/W;->wl is C1 after Lapp/W;->onReceive\n" ++ codes "report 2 of 2: Lapp/W;->\\xc3\\xa9 is L after Lapp/W;->onRebind\n"
-unfolding digits head_text lock_text callback_text class_text name_text type_text
+unfolding digits head_text lock_text callback_text class_text name_text type_text violation_text
 two_heads = refl

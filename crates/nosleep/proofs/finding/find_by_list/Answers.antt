@@ -1,10 +1,10 @@
 use Rattle.std.proofs.Common.{map}
 use Rattle.component_list.specs.Reading.{listed_of}
 use Rattle.nosleep.specs.Files.{bad_list}
-use Rattle.nosleep.proofs.Judgements.{list_outcome}
+use Rattle.nosleep.proofs.Found.{list_found}
 use Rattle.nosleep.proofs.finding.find_by_list.Goals as goal
 
 pub returns-in-Err : goal.returns-in-Err
 returns-in-Err c =
-    list_outcome (listed_of c.args.list.now) (map (λ v. v.items) c.args.files.now) (listed_of c.args.list.now) c.in-Err.fault c.refuse_list.result c.in-Err.ensures.exact
-    (λ e. bad_list c.in-Err.fault e) c.refuse_list.ensures
+    list_found (listed_of c.args.list.now) (map (λ v. v.items) c.args.files.now) (listed_of c.args.list.now) c.in-Err.fault _ c.in-Err.ensures.exact
+    (λ e. bad_list c.in-Err.fault e) c.in_ok-refuse_list.ensures

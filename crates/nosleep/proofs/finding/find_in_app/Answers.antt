@@ -1,7 +1,7 @@
 use Rattle.std.proofs.Common.{refl, Ok}
 use Rattle.component_list.specs.Binding.{bound_of}
 use Rattle.nosleep.specs.Files.{unbound}
-use Rattle.nosleep.proofs.Judgements.{list_outcome}
+use Rattle.nosleep.proofs.Found.{list_found}
 use Rattle.nosleep.proofs.finding.find_in_app.Goals as goal
 
 pub returns-in-Ok-bind_list : goal.returns-in-Ok-bind_list
@@ -10,5 +10,5 @@ returns-in-Ok-bind_list c = λ files is.
 
 pub returns-in-Err-bind_list : goal.returns-in-Err-bind_list
 returns-in-Err-bind_list c = λ files is.
-    list_outcome (Ok c.args.listed.now) files (bound_of c.args.app c.args.listed.now) c.in-Err-bind_list.fault c.refuse_list.result c.in-Err-bind_list.ensures.exact
-    (λ e. unbound c.args.listed.now c.args.app c.in-Err-bind_list.fault refl is e) c.refuse_list.ensures
+    list_found (Ok c.args.listed.now) files (bound_of c.args.app c.args.listed.now) c.in-Err-bind_list.fault _ c.in-Err-bind_list.ensures.exact
+    (λ e. unbound c.args.listed.now c.args.app c.in-Err-bind_list.fault refl is e) c.in_ok-refuse_list.ensures

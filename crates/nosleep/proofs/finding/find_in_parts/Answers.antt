@@ -2,7 +2,6 @@ use Rattle.std.proofs.Common.{rules, refl, map, Ok, Err}
 use Rattle.app_link.specs.Linking.{IsLinked}
 use Rattle.nosleep.specs.Files.{bad_link, named_by}
 use Rattle.nosleep.specs.Refusals.{InLink}
-use Rattle.nosleep.proofs.Judgements.{has_outcome}
 use Rattle.nosleep.proofs.finding.find_in_parts.Goals as goal
 
 pub returns-in-Ok : goal.returns-in-Ok
@@ -11,5 +10,4 @@ returns-in-Ok c = c.find_in_app.ensures (map (λ v. v.items) c.args.files.now) (
 pub returns-in-Err : goal.returns-in-Err
 returns-in-Err c =
     let linked : IsLinked c.args.parts.items (Err c.in-Err.fault) = search rules in
-    has_outcome (Ok c.args.listed.now) (map (λ v. v.items) c.args.files.now) (Err (InLink (named_by c.args.parts.items c.in-Err.fault) c.in-Err.fault)) c.refuse_link.result
-    (bad_link c.args.listed.now c.args.parts.items c.in-Err.fault refl c.requires.contents linked) (c.refuse_link.ensures c.args.parts.items c.requires.contents)
+    (InLink (named_by c.args.parts.items c.in-Err.fault) c.in-Err.fault, bad_link c.args.listed.now c.args.parts.items c.in-Err.fault refl c.requires.contents linked, c.in_ok-refuse_link.ensures c.args.parts.items c.requires.contents)

@@ -1,5 +1,5 @@
 use Rattle.nosleep.proofs.Alike.{least_over, tagged_over, violations_over}
-use Rattle.nosleep.proofs.Judging.{all_safe, told_answer}
+use Rattle.nosleep.proofs.Told.{all_safe, told_answer}
 use Rattle.nosleep.proofs.judging.judge.Goals as goal
 
 pub returns-in-Ok : goal.returns-in-Ok

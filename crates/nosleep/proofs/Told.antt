@@ -110,12 +110,12 @@ written_by list dex y cert text exit solved is accepted valid (short t few e) =
     certified (record {
       cert = cert;
       solved = solved;
-      text = t;
+      spells = t;
       short = few;
       accepted = accepted;
-      checks = IsChecked.read cert is t (record { checked = Valid; verdict = valid (subst (λ (bs : List ℕ). length bs ≤ limit_of CertBytes) t few); text = refl; exit = refl; safe = λ v. accepted.1 });
+      checks = IsChecked.read cert is t (record { checked = Valid; verdict = valid (subst (λ (bs : List ℕ). length bs ≤ limit_of CertBytes) t few); says = refl; ends = refl; safe = λ v. accepted.1 });
     }) e
-written_by list dex y cert text exit solved is accepted valid (long many t e) = overlong (record { cert = cert; solved = solved; long = many; accepted = accepted; text = t }) e
+written_by list dex y cert text exit solved is accepted valid (long many t e) = overlong (record { cert = cert; solved = solved; long = many; accepted = accepted; says = t }) e
 
 pub written_answer : {E : Type 0} (list : List ℕ) (dex : List (List ℕ)) (x : SubjectParts) (cert : CertParts) (r : Result Answer E) → IsCert cert
     → ((y : SubjectParts) → AreAlike x y → IsCertificateOf y (sha1 list) (map sha1 dex) cert × IsAccepted y × (length (certificate_text cert) ≤ limit_of CertBytes → IsVerdict y (sha1 list) (map sha1 dex) cert Valid))

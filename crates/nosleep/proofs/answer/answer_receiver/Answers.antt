@@ -1,0 +1,14 @@
+use Rattle.std.proofs.Common.{map, Ok, Err}
+use Rattle.nosleep.specs.Words.{Receiver}
+use Rattle.nosleep.proofs.Outcomes.{judged_form}
+use Rattle.nosleep.proofs.answer.answer_receiver.Goals as goal
+
+pub returns-in-Subject : goal.returns-in-Subject
+returns-in-Subject c = λ dex.
+    let comes = rw c.in-Subject.is at c.in_ok-answer.ensures in
+    judged_form (Receiver dex c.args.class.now) (map (λ v. v.items) c.args.files.now) _ c.judge.result (rw c.in_ok-listed.ensures.is at comes) c.judge.ensures
+
+pub returns-in-Refused : goal.returns-in-Refused
+returns-in-Refused c = λ dex.
+    let comes = rw c.in-Refused.is at c.in_ok-answer.ensures in
+    (Err comes.0, rw c.in_ok-listed.ensures.is at comes.1, comes.2)
