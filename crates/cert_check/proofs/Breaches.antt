@@ -1,17 +1,16 @@
 -- The first place by any rule, and for any lock field.
 use Rattle.std.proofs.Common.{◌≡◌, ◌+◌, ◌<◌, ◌≤◌, ℕ, suc, Bool, true, false, List, [], ◌∷◌, Option, Some, None, length, refl, sym, ap, ◌∙◌, subst, ⊎_elim, arith}
-use Rattle.std.specs.Prelude.{◌⊎◌, ◌↔◌, IsTrue, is_some, nat_le, slice_get, slice_index_or}
+use Rattle.std.specs.Prelude.{◌↔◌, IsTrue, is_some, nat_le, slice_get, slice_index_or}
 use Rattle.std.proofs.lemmas.Bool.{cases_lt, leb-true, le-leb, false≢true, true≢false}
 use Rattle.std.proofs.lemmas.Option.{slice_get_past, slice_get-get_or}
-use Rattle.app_model.specs.Subject.{SubjectParts, slot_count}
+use Rattle.app_model.specs.Subject.{SubjectParts}
 use Rattle.certificate.specs.Parts.{LockRows}
 use Rattle.flow_model.specs.Places.{place}
 use Rattle.cert_check.specs.Broken.{LeadsOut}
-use Rattle.cert_check.specs.Cases.{Case}
-use Rattle.cert_check.specs.Digests.{IsFirstDigest}
+use Rattle.cert_facts.specs.Cases.{Case}
 use Rattle.cert_check.specs.Firsts.{IsBrokenAt, IsFirst, IsFirstRule, IsFirstBreach, IsBrokenIn}
-use Rattle.cert_check.specs.Sets.{facts_in}
-use Rattle.cert_check.specs.Verdict.{Precedes, rule_number, rule_of}
+use Rattle.cert_facts.specs.Sets.{facts_in}
+use Rattle.cert_check.specs.Verdict.{rule_number, rule_of}
 use Rattle.cert_check.specs.declared.checking.Breach.{Breach}
 use Rattle.cert_check.specs.declared.places.Found.{Found}
 use Rattle.cert_check.specs.declared.verdict.Rule.{Rule}

@@ -1,5 +1,5 @@
 -- The first place at which a rule leads out, by loops over its numbers.
-use Rattle.std.proofs.Common.{◌≡◌, ◌+◌, ◌*◌, ◌<◌, ◌≤◌, ℕ, Bool, true, false, List, [], ◌∷◌, Option, Some, None, length, get_or, refl, sym, ap, ◌∙◌, subst, ⊎_elim, arith}
+use Rattle.std.proofs.Common.{◌≡◌, ◌+◌, ◌<◌, ◌≤◌, ℕ, Bool, true, false, List, Option, Some, None, length, get_or, refl, sym, ap, ◌∙◌, ⊎_elim, arith}
 use Rattle.std.specs.Prelude.{◌↔◌, ◌⊎◌, IsTrue, is_some, slice_get}
 use Rattle.std.proofs.lemmas.Bool.{cases_Bool, cases_lt, cases_order, false≢true, true≢false}
 use Rattle.std.proofs.lemmas.Option.{slice_get_within, get_or_from_slice_get, slice_get_read}
@@ -9,20 +9,19 @@ use Rattle.app_model.specs.Subject.{is_reached}
 use Rattle.app_model.specs.Words.{code_len, pc_at}
 use Rattle.cert_line.specs.Parts.{BodyParts}
 use Rattle.flow_model.specs.Places.{number_of}
-use Rattle.cert_check.specs.Cases.{Case, IsCase}
+use Rattle.cert_facts.specs.Cases.{Case, IsCase}
 use Rattle.cert_check.specs.Firsts.{IsBrokenAt, IsFirstLast, IsFirstWith, IsFirst, is_inside, place_count}
-use Rattle.cert_check.specs.Moves.{IsOutBetween}
-use Rattle.cert_check.specs.Rows.{Rises, body_rank}
+use Rattle.cert_check.specs.EdgeTests.{IsOutBetween}
+use Rattle.cert_facts.specs.Rows.{Rises, body_rank}
 use Rattle.cert_check.specs.Tests.{IsOut}
-use Rattle.cert_check.specs.Verdict.{Precedes}
 use Rattle.cert_check.specs.declared.places.Found.{Found}
 use Rattle.cert_check.specs.declared.verdict.Rule.{Rule}
 use Rattle.cert_check.specs.declared.verdict.Rule.TheVariants.{V1, V2, V3, V4, V5, I1, I2, I3, C1, C2, C3}
-use Rattle.cert_check.proofs.Edges.{edge_component, mover_within}
+use Rattle.cert_facts.proofs.Carries.{mover_within}
 use Rattle.cert_check.proofs.Instances.{spot, broken_inside, broken_between, out_broken, between_broken}
 use Rattle.cert_check.proofs.Searches.{NoneBelow}
-use Rattle.cert_check.proofs.Sought.{rank_up}
-use Rattle.cert_check.proofs.Told.{IsAt, at_ranges, view_ranges}
+use Rattle.cert_facts.proofs.Sought.{rank_up}
+use Rattle.cert_facts.proofs.Told.{IsAt, at_ranges, view_ranges}
 use Rattle.cert_check.proofs.Ways.{pcs_rise, pc_there}
 
 -- ---- inside callbacks: the instruction of a pc

@@ -1,6 +1,5 @@
 -- The tests of the checker, and the instances of the rules that lead out of the facts.
-use Rattle.std.proofs.Common.{◌≡◌, ◌<◌, ℕ, Bool, true, false, List, [], ◌∷◌, Option, Some, None, length, refl, sym, ap, ◌∙◌, subst, ⊎_elim, inl, inr, arith}
-use Rattle.std.specs.Prelude.{◌⊎◌, ◌≢◌, Contains}
+use Rattle.std.proofs.Common.{◌≡◌, ℕ, Bool, true, false, List, [], ◌∷◌, Option, Some, refl, sym, ap, ◌∙◌, subst, ⊎_elim, inl, inr}
 use Rattle.std.proofs.lemmas.Bool.{false≢true}
 use Rattle.app_model.specs.Facts.{Fact, View, At, Ret, Exc}
 use Rattle.app_model.specs.Masks.{in_mask}
@@ -12,9 +11,9 @@ use Rattle.flow_model.specs.Rules.{Carries, Rules}
 use Rattle.flow_model.specs.Rules as flow
 use Rattle.flow_model.specs.Subject.{status_masks}
 use Rattle.cert_check.specs.Broken.{LeadsOut, place_of}
-use Rattle.cert_check.specs.Cases.{Case, Entry, Spot, set_of}
+use Rattle.cert_facts.specs.Cases.{Case, Spot, set_of}
 use Rattle.cert_check.specs.Firsts.{IsBrokenAt, is_inside}
-use Rattle.cert_check.specs.Moves.{IsOutBetween}
+use Rattle.cert_check.specs.EdgeTests.{IsOutBetween}
 use Rattle.cert_check.specs.Tests.{StepsOut, ThrowsOut, IsOut}
 use Rattle.cert_check.specs.Verdict.{rule_of}
 use Rattle.cert_check.specs.declared.verdict.Rule.{Rule}

@@ -1,6 +1,6 @@
 -- The tests of one instruction.
-use Rattle.std.proofs.Common.{◌≡◌, ◌-◌, ◌<◌, ◌≤◌, ◌^◌, ℕ, Bool, true, false, List, length, get_or, Some, None, refl, sym, ap, ◌∙◌, subst, ⊎_elim, inl, inr, arith}
-use Rattle.std.specs.Prelude.{◌↔◌, ◌⊎◌, ◌||◌, ◌&&◌, not, IsTrue, Contains, slice_get}
+use Rattle.std.proofs.Common.{◌≡◌, ◌<◌, ◌≤◌, ℕ, Bool, true, false, List, length, get_or, Some, None, refl, sym, ap, ◌∙◌, subst, ⊎_elim, arith}
+use Rattle.std.specs.Prelude.{◌↔◌, IsTrue, Contains, slice_get}
 use Rattle.std.proofs.lemmas.Bool.{cases_lt, false≢true}
 use Rattle.std.proofs.lemmas.List.{get_or_default}
 use Rattle.std.proofs.lemmas.Option.{slice_get-get_or, slice_get_read}
@@ -8,8 +8,9 @@ use Rattle.ns_base.specs.declared.rows.MethodNo.{MethodNo}
 use Rattle.app_model.specs.Masks.{in_mask}
 use Rattle.app_model.specs.Subject.{callees_at}
 use Rattle.app_model.specs.Words.{successor_at, handler_at}
-use Rattle.cert_check.specs.Cases.{Spot, IsSpot, IsEntry}
-use Rattle.cert_check.specs.Tests.{Misses, PassesTo, HandlesTo, CallOut, CallsOut, before, masks_of}
+use Rattle.cert_facts.specs.Cases.{Spot, IsSpot}
+use Rattle.cert_check.specs.Tests.{Misses, PassesTo, HandlesTo, CallOut, CallsOut}
+use Rattle.cert_facts.specs.Entries.{before, masks_of}
 use Rattle.cert_check.specs.declared.verdict.Rule.{Rule}
 use Rattle.cert_check.proofs.Searches.{NoneBelow}
 use Rattle.cert_check.proofs.Missing.{misses_as}

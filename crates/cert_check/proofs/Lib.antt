@@ -1,6 +1,3 @@
-pub mod Sought
-pub mod Told
-pub mod Lifecycles
 pub mod Searches
 pub mod Ways
 pub mod Missing

@@ -1,8 +1,8 @@
 -- Tests on masks.
-use Rattle.std.proofs.Common.{◌≡◌, ◌-◌, ◌<◌, ◌^◌, ℕ, Bool, true, false, refl, sym, ◌∙◌, ⊎_elim, arith, bit_and, w8, min, ap}
+use Rattle.std.proofs.Common.{◌≡◌, ◌-◌, ◌<◌, ◌^◌, ℕ, Bool, false, sym, ◌∙◌, ⊎_elim, arith, bit_and, w8, min, ap}
 use Rattle.std.specs.Prelude.{◌↔◌, ◌==◌, not, IsTrue}
 use Rattle.std.specs.Int.{bit_at, bit_not, trailing_zeros}
-use Rattle.std.proofs.lemmas.Bool.{cases_Bool, cases_eq, false≢true, not-true, not_from_false, eq-eqb, eqb-true, eqb-false, ne_eqb}
+use Rattle.std.proofs.lemmas.Bool.{cases_Bool, cases_eq, false≢true, not-true, not_from_false, eqb-false, ne_eqb}
 use Rattle.std.proofs.lemmas.Nat.{and_le_l}
 use Rattle.std.proofs.lemmas.Nat.Bits.{bit_at_and, bit_at_not, bit_at-lt, bit_at-zero, bit_at-trailing_zeros}
 use Rattle.app_model.specs.Masks.{in_mask}

@@ -1,22 +1,21 @@
 -- Ends of callbacks as masks, and the first violation by loops.
-use Rattle.std.proofs.Common.{◌≡◌, ◌+◌, ◌<◌, ◌≤◌, ℕ, Bool, true, false, List, [], ◌∷◌, Option, Some, None, length, refl, sym, ap, ◌∙◌, subst, ⊎_elim, inl, inr, arith}
-use Rattle.std.specs.Prelude.{◌⊎◌, ◌||◌, ◌&&◌, is_some, slice_get}
-use Rattle.std.proofs.lemmas.Bool.{cases_lt, cases_Bool, cases_order, cond-true, cond-false, false≢true, true≢false}
+use Rattle.std.proofs.Common.{◌≡◌, ◌+◌, ◌<◌, ◌≤◌, ℕ, Bool, true, false, Option, Some, None, length, refl, sym, ap, ◌∙◌, subst, ⊎_elim, arith}
+use Rattle.std.specs.Prelude.{is_some}
+use Rattle.std.proofs.lemmas.Bool.{cases_lt, false≢true, true≢false}
 use Rattle.app_model.specs.declared.component.Edge.{Edge}
 use Rattle.app_model.specs.Components.{edge_at, exits_at}
 use Rattle.app_model.specs.Facts.{View}
 use Rattle.app_model.specs.Masks.{in_mask, held_statuses}
-use Rattle.app_model.specs.Subject.{SubjectParts, answers_at}
+use Rattle.app_model.specs.Subject.{answers_at}
 use Rattle.flow_model.specs.Images.{IsCut}
 use Rattle.flow_model.proofs.MaskLaws.{IsIn-lt}
 use Rattle.flow_model.specs.declared.policy.Violation.{Violation}
 use Rattle.solution.specs.Words.{IsMask}
 use Rattle.solution.proofs.Bits.{mask_empty}
-use Rattle.cert_check.specs.Cases.{Case, IsCase, set_of}
+use Rattle.cert_facts.specs.Cases.{Case, IsCase, set_of}
 use Rattle.cert_check.specs.Ends.{LeadsFrom, Leads, EndsBy, Ends, Violates, IsFirstStatus, IsFirstCallback, IsFirstOf}
-use Rattle.cert_check.specs.Verdict.{Precedes}
 use Rattle.cert_check.proofs.Searches.{NoneBelow}
-use Rattle.cert_check.proofs.Told.{view_ranges}
+use Rattle.cert_facts.proofs.Told.{view_ranges}
 
 module _ (t : Case) (c k : ℕ) where
   pub ends_none : (e : ℕ) → edge_at t.subject.list c e ≡ None → IsMask (EndsBy t c k e) 0

@@ -1,20 +1,19 @@
 -- The verdict, from what was found.
-use Rattle.std.proofs.Common.{◌≡◌, ◌<◌, ℕ, true, false, List, [], ◌∷◌, Some, None, refl, sym, ap, ◌∙◌, subst, ⊎_elim, arith}
+use Rattle.std.proofs.Common.{◌≡◌, ◌<◌, ℕ, List, Some, None, refl, sym, ap, ◌∙◌, ⊎_elim, arith}
 use Rattle.std.specs.Prelude.{◌⊎◌, ◌↔◌, slice_get}
 use Rattle.std.proofs.lemmas.Bool.{cases_Bool, false≢true}
-use Rattle.app_model.specs.Facts.{Fact}
 use Rattle.app_model.specs.Subject.{SubjectParts, slot_count}
 use Rattle.certificate.specs.Parts.{CertParts}
-use Rattle.flow_model.specs.Derived.{HasAll, IsClosed}
-use Rattle.flow_model.specs.Places.{Place, place}
+use Rattle.flow_model.specs.Derived.{IsClosed}
+use Rattle.flow_model.specs.Places.{place}
 use Rattle.flow_model.specs.Rules.{Rules}
 use Rattle.flow_model.specs.declared.policy.Violation.{Violation}
-use Rattle.cert_check.specs.Broken.{LeadsOut, place_of}
+use Rattle.cert_check.specs.Broken.{place_of}
 use Rattle.cert_check.specs.Ends.{IsFirstUnmet}
 use Rattle.cert_check.specs.Firsts.{IsFirstBreach}
-use Rattle.cert_check.specs.Sets.{facts_at}
-use Rattle.cert_check.specs.Shape.{FitsAt}
-use Rattle.cert_check.specs.Verdict.{IsAccepted, IsVerdict, Precedes, Says, order, rule_of}
+use Rattle.cert_facts.specs.Sets.{facts_at}
+use Rattle.cert_facts.specs.Shape.{FitsAt}
+use Rattle.cert_check.specs.Verdict.{IsAccepted, IsVerdict, Precedes, Says, order}
 use Rattle.cert_check.specs.declared.checking.Breach.{Breach}
 use Rattle.cert_check.specs.declared.verdict.Checked.{Checked}
 use Rattle.cert_check.specs.declared.verdict.Checked.TheVariants.{Valid, ListDigest, DexDigest, Shape, Broken, Unmet}

@@ -10,9 +10,9 @@ use Rattle.flow_model.specs.Derived.{HasAll}
 use Rattle.flow_model.specs.Policy.{IsViolation}
 use Rattle.flow_model.specs.Rules.{Carries}
 use Rattle.flow_model.specs.declared.policy.Violation.{Violation}
-use Rattle.cert_check.specs.Cases.{Case, set_of}
-use Rattle.cert_check.specs.Moves.{Carried}
-use Rattle.cert_check.specs.Sets.{facts_in}
+use Rattle.cert_facts.specs.Cases.{Case, set_of}
+use Rattle.cert_facts.specs.Moves.{Carried}
+use Rattle.cert_facts.specs.Sets.{facts_in}
 use Rattle.cert_check.specs.Verdict.{Precedes}
 
 -- an edge of component c leads from status s, which the mask has, to u; from any

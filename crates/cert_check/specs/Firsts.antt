@@ -4,8 +4,8 @@ use Rattle.app_model.specs.Subject.{SubjectParts}
 use Rattle.certificate.specs.Parts.{LockRows}
 use Rattle.flow_model.specs.Places.{place}
 use Rattle.cert_check.specs.Broken.{LeadsOut}
-use Rattle.cert_check.specs.Cases.{Case, set_of}
-use Rattle.cert_check.specs.Sets.{facts_in}
+use Rattle.cert_facts.specs.Cases.{Case, set_of}
+use Rattle.cert_facts.specs.Sets.{facts_in}
 use Rattle.cert_check.specs.Verdict.{Precedes, rule_of, rule_number}
 use Rattle.cert_check.specs.declared.checking.Breach.{Breach}
 use Rattle.cert_check.specs.declared.places.Found.{Found}

@@ -1,11 +1,7 @@
-pub mod Sets
-pub mod Shape
 pub mod Broken
 pub mod Verdict
-pub mod Rows
-pub mod Cases
 pub mod Tests
-pub mod Moves
+pub mod EdgeTests
 pub mod Firsts
 pub mod Ends
 pub mod Digests

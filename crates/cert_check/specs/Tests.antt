@@ -5,27 +5,15 @@ use Rattle.app_model.specs.Facts.{At, Ret, Exc}
 use Rattle.app_model.specs.Masks.{in_mask}
 use Rattle.app_model.specs.Subject.{callees_at}
 use Rattle.app_model.specs.Words.{successor_at, handler_at, leaves_at}
-use Rattle.flow_model.specs.Subject.{Masks, status_masks, own_operation, is_open, returns_at}
-use Rattle.cert_check.specs.Cases.{Case, Entry, Spot, set_of}
+use Rattle.flow_model.specs.Subject.{returns_at}
+use Rattle.cert_facts.specs.Entries.{before, returned, thrown, masks_of, is_own, opens}
+use Rattle.cert_facts.specs.Cases.{Spot, set_of}
 use Rattle.cert_check.specs.declared.verdict.Rule.{Rule}
-use Rattle.cert_check.specs.declared.verdict.Rule.TheVariants.{V1, V2, V3, V4, V5, I1, I2, I3, C1, C2, C3}
+use Rattle.cert_check.specs.declared.verdict.Rule.TheVariants.{I1, I2, I3, C1, C2, C3}
 
 -- the first test is true of a status of which the second is not
 abbrev pub Misses : (ℕ → Bool) → (ℕ → Bool) → Type 0
 Misses led there = (t : ℕ) × (led t ≡ true) × (there t ≡ false)
-
--- ---- the statuses before an instruction of a method that was entered at a status, and where that ends
-abbrev pub before : Entry → (i : ℕ) → ℕ → Bool
-before t i s = set_of t.case (At t.method t.status i s)
-
-abbrev pub returned : Entry → ℕ → Bool
-returned t s = set_of t.case (Ret t.method t.status s)
-
-abbrev pub thrown : Entry → ℕ → Bool
-thrown t s = set_of t.case (Exc t.method t.status s)
-
-abbrev pub masks_of : Spot → Masks
-masks_of t = status_masks t.entry.case.subject t.entry.case.lock
 
 -- ---- from a status s before the instruction
 -- on to successor number k, and to any
@@ -68,12 +56,6 @@ CallOut rule t n s = ⊥
 
 abbrev pub CallsOut : Rule → Spot → (s : ℕ) → Type 0
 CallsOut rule t s = (n : MethodNo) × Contains (callees_at t.entry.case.subject t.entry.method t.index) n × CallOut rule t n.0 s
-
-abbrev pub is_own : Spot → Bool
-is_own t = own_operation t.entry.case.subject t.entry.case.lock t.entry.method t.index
-
-abbrev pub opens : Spot → (s : ℕ) → Bool
-opens t s = is_open t.entry.case.subject t.entry.case.lock t.entry.method t.index s
 
 abbrev pub StepsOut : Rule → Spot → (s : ℕ) → Type 0
 StepsOut I1 t s = ((is_own t ≡ false) × PassesOut t s) ⊎ ReturnsOut t s

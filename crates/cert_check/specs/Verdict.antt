@@ -1,15 +1,15 @@
 -- The verdict on a certificate, for a subject and the digests of the files from which it was made.
-use Rattle.std.specs.Prelude.{ℕ, ◌≡◌, ◌≢◌, ◌<◌, ◌⊎◌, List, [], ◌∷◌, Some, slice_get}
+use Rattle.std.specs.Prelude.{ℕ, ◌≡◌, ◌≢◌, ◌<◌, ◌⊎◌, List, [], ◌∷◌, slice_get}
 use Rattle.app_model.specs.Subject.{SubjectParts, slot_count}
-use Rattle.certificate.specs.Parts.{CertParts, LockRows}
+use Rattle.certificate.specs.Parts.{CertParts}
 use Rattle.flow_model.specs.Derived.{HasAll, IsClosed}
 use Rattle.flow_model.specs.Places.{place}
 use Rattle.flow_model.specs.Places as rule
 use Rattle.flow_model.specs.Policy.{IsViolation, MeetsPolicy}
 use Rattle.flow_model.specs.Rules.{Carries, Rules}
 use Rattle.cert_check.specs.Broken.{LeadsOut}
-use Rattle.cert_check.specs.Sets.{facts_at, facts_of}
-use Rattle.cert_check.specs.Shape.{FitsAt}
+use Rattle.cert_facts.specs.Sets.{facts_at}
+use Rattle.cert_facts.specs.Shape.{FitsAt}
 use Rattle.cert_check.specs.declared.verdict.Checked.{Checked}
 use Rattle.cert_check.specs.declared.verdict.Checked.TheVariants.{Valid, ListDigest, DexDigest, Shape, Broken, Unmet}
 use Rattle.cert_check.specs.declared.verdict.Rule.{Rule}

@@ -3,16 +3,15 @@ ghost use Rattle.std.specs.Prelude.{◌≡◌, ◌↔◌, ◌<◌, ◌*◌, ℕ,
 ghost use Rattle.app_model.specs.Facts.{View};
 ghost use Rattle.app_model.specs.Masks.{in_mask};
 ghost use Rattle.app_model.specs.Subject.{IsEnterable};
-ghost use Rattle.cert_check.specs.Cases.{set_of};
+ghost use Rattle.cert_facts.specs.Cases.{set_of};
 ghost use Rattle.cert_check.specs.Tests.{Misses};
-ghost use Rattle.cert_check.specs.Moves.{AreMoves, MovesOut, StartsOut, EdgeOut, EdgesOut, WatchesOut, BeginsOut, IsOutBetween};
+ghost use Rattle.cert_facts.specs.Moves.{AreMoves};
+ghost use Rattle.cert_check.specs.EdgeTests.{MovesOut, StartsOut, EdgeOut, EdgesOut, WatchesOut, BeginsOut, IsOutBetween};
 
-use crate::carrying::{carried, enter};
-use crate::entered::Entered;
 use crate::inside::misses;
-use crate::task::Task;
 use crate::verdict::Rule;
 use app_model::Edge;
+use cert_facts::{Entered, Task, carried, enter};
 use flow_model::has_status;
 use ns_base::{ComponentNo, MethodNo};
 

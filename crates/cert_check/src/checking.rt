@@ -1,20 +1,18 @@
 //! The verdict on a certificate.
 ghost use Rattle.std.specs.Prelude.{◌≡◌, ◌↔◌, ◌<◌, ◌≤◌, ◌*◌, ℕ, IsTrue, length, slice_get};
 ghost use Rattle.app_model.specs.Subject.{slot_count};
-ghost use Rattle.cert_check.specs.Cases.{IsCase};
+ghost use Rattle.cert_facts.specs.Cases.{IsCase};
 ghost use Rattle.cert_check.specs.Digests.{IsFirstDigest};
 ghost use Rattle.cert_check.specs.Firsts.{IsFirstRule, IsFirstBreach};
-ghost use Rattle.cert_check.specs.Moves.{AreMoves};
-ghost use Rattle.cert_check.specs.Shape.{FitsAt};
+ghost use Rattle.cert_facts.specs.Moves.{AreMoves};
+ghost use Rattle.cert_facts.specs.Shape.{FitsAt};
 ghost use Rattle.cert_check.specs.Verdict.{rule_number, IsVerdict, IsAccepted};
 
-use crate::carrying::note_all;
 use crate::places::first_of;
 use crate::policy::first_unmet;
-use crate::shape::first_unfit;
-use crate::task::Task;
 use crate::verdict::{Checked, Rule};
 use app_model::Subject;
+use cert_facts::{Task, first_unfit, note_all};
 use certificate::{Certificate, LockPart};
 use ns_base::LockNo;
 

@@ -5,9 +5,8 @@ ghost use Rattle.app_model.specs.Subject.{IsEnterable};
 ghost use Rattle.app_model.specs.Words.{code_len};
 ghost use Rattle.cert_check.specs.Tests.{Misses, PassesOut, ReturnsOut, HandlesOut, LeavesOut, ThrowsOut, ComesBackOut, CallOut, CallsOut, StepsOut, IsOut};
 
-use crate::entered::Entered;
-use crate::site::Site;
 use crate::verdict::Rule;
+use cert_facts::{Entered, Site};
 use flow_model::has_status;
 use ns_base::MethodNo;
 

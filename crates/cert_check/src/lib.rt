@@ -5,18 +5,11 @@
 #![tactic(auto)]
 
 mod between;
-mod carrying;
 mod checking;
-mod entered;
 mod inside;
 mod places;
 mod policy;
-mod rows;
-mod shape;
-mod site;
-mod task;
 mod verdict;
-mod which;
 
 pub use checking::check;
 pub use verdict::{Checked, Rule};

@@ -1,15 +1,13 @@
 //! The first place at which a rule leads out of the facts of a lock field.
 ghost use Rattle.std.specs.Prelude.{◌≡◌, ◌<◌, ◌*◌, ℕ, true, false, length};
 ghost use Rattle.cert_check.specs.Firsts.{is_inside, place_count, IsBrokenAt, IsFirstLast, IsFirstWith, IsFirst};
-ghost use Rattle.cert_check.specs.Moves.{AreMoves};
-ghost use Rattle.cert_check.specs.Rows.{Rises, body_rank};
+ghost use Rattle.cert_facts.specs.Moves.{AreMoves};
+ghost use Rattle.cert_facts.specs.Rows.{Rises, body_rank};
 
 use crate::between::is_out_between;
-use crate::carrying::note_all;
-use crate::entered::Entered;
 use crate::inside::is_out;
-use crate::task::Task;
 use crate::verdict::Rule;
+use cert_facts::{Entered, Task, note_all};
 use ns_base::{ComponentNo, MethodNo};
 
 /// The numbers of a place.

@@ -3,11 +3,10 @@ ghost use Rattle.std.specs.Prelude.{◌≡◌, ◌<◌, ℕ, length, slice_get};
 ghost use Rattle.app_model.specs.Subject.{slot_count};
 ghost use Rattle.solution.specs.Words.{IsMask};
 ghost use Rattle.cert_check.specs.Ends.{LeadsFrom, Leads, EndsBy, Ends, Violates, IsFirstStatus, IsFirstCallback, IsFirstOf, IsFirstUnmet, earlier};
-ghost use Rattle.cert_check.specs.Shape.{FitsAt};
+ghost use Rattle.cert_facts.specs.Shape.{FitsAt};
 
-use crate::carrying::carried;
-use crate::task::Task;
 use app_model::{Edge, Subject};
+use cert_facts::{Task, carried};
 use certificate::LockPart;
 use flow_model::{Violation, has_status, held_test};
 use ns_base::{ComponentNo, LockNo};

@@ -6,7 +6,7 @@ use Rattle.flow_model.specs.Derived.{Set, IsClosed}
 use Rattle.flow_model.specs.Policy.{AreViolations, IsDerivableViolation, MeetsPolicy, none_given}
 use Rattle.flow_model.specs.Rules.{Rules}
 use Rattle.flow_model.proofs.Laws.{in_closed}
-use Rattle.cert_check.specs.Sets.{facts_at}
+use Rattle.cert_facts.specs.Sets.{facts_at}
 use Rattle.cert_check.specs.Verdict.{IsAccepted, IsVerdict, Precedes, order}
 use Rattle.cert_check.specs.declared.verdict.Checked.{Checked}
 use Rattle.cert_check.specs.declared.verdict.Checked.TheVariants.{Valid}

@@ -12,8 +12,8 @@ use Rattle.one_scope.specs.Alike.{AreAlike}
 use Rattle.one_scope.proofs.Graphs.{same_reach}
 use Rattle.one_scope.proofs.Owners.{beside, in_scope, is_second, targets}
 use Rattle.one_scope.proofs.Rules.{same_closed, same_policy, violation_over}
-use Rattle.cert_check.specs.Sets.{facts_at}
-use Rattle.cert_check.specs.Shape.{FitsAt, FitsBody}
+use Rattle.cert_facts.specs.Sets.{facts_at}
+use Rattle.cert_facts.specs.Shape.{FitsAt, FitsBody}
 use Rattle.cert_check.specs.Verdict.{IsAccepted, IsVerdict, Says, rule_of}
 use Rattle.cert_check.specs.declared.verdict.Checked.{Checked}
 use Rattle.cert_check.specs.declared.verdict.Checked.TheVariants.{Broken, DexDigest, ListDigest, Shape, Unmet, Valid}

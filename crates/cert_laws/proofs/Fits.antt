@@ -23,7 +23,7 @@ use Rattle.flow_model.specs.Derived.{Derived, IsLeast, Set, all_done, by_rule, i
 use Rattle.flow_model.specs.Policy.{none_given}
 use Rattle.flow_model.specs.Rules.{Between, C1, C2, C3, C3_leaves, Carries, I1, I1_return, I2, I3, I3_leaves, Inside, Rules, Starts, V1, V2, V3, V4, V5}
 use Rattle.flow_model.specs.Subject.{status_masks}
-use Rattle.cert_check.specs.Shape.{FitsBody, FitsLock, FitsView, state_count, states_at, states_of}
+use Rattle.cert_facts.specs.Shape.{FitsBody, FitsLock, FitsView, state_count, states_at, states_of}
 
 -- ---- edges lead to states of the lifecycle
 edges_end : (kind : Kind) → list_all (λ edge. nat_lt edge.to (state_count kind)) (edges_of kind) ≡ true

@@ -24,7 +24,7 @@ use Rattle.solution.specs.Facts.{Facts, HasPlaces, holds, place_count}
 use Rattle.solution.proofs.Bits.{has_true, mask_true}
 use Rattle.solution.proofs.Facts.{at_place, view_place}
 use Rattle.view_solver.proofs.Closed.{least_closed}
-use Rattle.cert_check.specs.Sets.{body_has, facts_of, is_of_entry, is_of_state, view_has}
+use Rattle.cert_facts.specs.Sets.{body_has, facts_of, is_of_entry, is_of_state, view_has}
 
 -- a status that some row has
 row_status : {R : Type 0} (tells : R → Bool) (mask : R → ℕ) (s : ℕ) (rows : List R) → list_any (λ row. tells row && in_mask (mask row) s) rows ≡ true → s < 8

@@ -16,8 +16,8 @@ use Rattle.flow_model.specs.declared.policy.Violation.{Violation}
 use Rattle.solution.specs.Facts.{holds}
 use Rattle.view_solver.proofs.Closed.{least_closed}
 use Rattle.view_solver.proofs.Judged.{derived_violation}
-use Rattle.cert_check.specs.Sets.{facts_at, facts_in, facts_of}
-use Rattle.cert_check.specs.Shape.{FitsAt, FitsLock}
+use Rattle.cert_facts.specs.Sets.{facts_at, facts_in, facts_of}
+use Rattle.cert_facts.specs.Shape.{FitsAt, FitsLock}
 use Rattle.cert_check.specs.Verdict.{IsAccepted}
 use Rattle.cert_laws.specs.Solved.{AreSolved, IsSolved}
 use Rattle.cert_laws.proofs.Fits.{part_fits}

@@ -1,4 +1,5 @@
-use Rattle.cert_check.proofs.Edges.{edge_starts, callback_some}
+use Rattle.cert_check.proofs.Edges.{edge_starts}
+use Rattle.cert_facts.proofs.Carries.{callback_some}
 use Rattle.cert_check.proofs.between.edge_out.Goals as goal
 
 pub returns-in-V3-Some : goal.returns-in-V3-Some

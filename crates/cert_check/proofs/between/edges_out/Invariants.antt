@@ -1,4 +1,4 @@
-use Rattle.cert_check.specs.Moves.{SeenEdgeOut}
+use Rattle.cert_check.specs.EdgeTests.{SeenEdgeOut}
 use Rattle.cert_check.proofs.Searches.{NoneBelow}
 use Rattle.cert_check.proofs.between.edges_out.Given as goal
 

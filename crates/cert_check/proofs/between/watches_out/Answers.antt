@@ -1,5 +1,5 @@
 use Rattle.std.proofs.Common.{arith}
-use Rattle.cert_check.proofs.Edges.{mover_within, sees_one, watches_far}
+use Rattle.cert_check.proofs.Edges.{sees_one, watches_far}
 use Rattle.cert_check.proofs.Searches.{none_more}
 use Rattle.cert_check.proofs.between.watches_out.Goals as goal
 

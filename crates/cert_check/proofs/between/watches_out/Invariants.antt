@@ -1,4 +1,4 @@
-use Rattle.cert_check.specs.Moves.{SeesOut}
+use Rattle.cert_check.specs.EdgeTests.{SeesOut}
 use Rattle.cert_check.proofs.Searches.{NoneBelow}
 use Rattle.cert_check.proofs.between.watches_out.Given as goal
 

@@ -1,4 +1,4 @@
-use Rattle.cert_check.specs.Moves.{IsOutBetween}
+use Rattle.cert_check.specs.EdgeTests.{IsOutBetween}
 use Rattle.cert_check.proofs.Searches.{NoneBelow}
 use Rattle.cert_check.proofs.places.first_number.Given as goal
 

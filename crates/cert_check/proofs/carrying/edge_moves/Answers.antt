@@ -1,6 +1,0 @@
-use Rattle.std.proofs.Common.{sym}
-use Rattle.cert_check.proofs.Edges.{moves_none}
-use Rattle.cert_check.proofs.carrying.edge_moves.Goals as goal
-
-pub returns-in_default : goal.returns-in_default
-returns-in_default c = moves_none _ _ _ _ (sym c.in_default.ensures)

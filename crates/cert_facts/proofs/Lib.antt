@@ -1,0 +1,5 @@
+pub mod Sought
+pub mod Told
+pub mod Lifecycles
+pub mod Carries
+pub mod Fits
