@@ -6,7 +6,7 @@ use Rattle.ns_base.specs.declared.answers.Exit.TheVariants as exits
 use Rattle.app_model.specs.Components.{ComponentParts}
 use Rattle.app_model.specs.Parts.{AppParts}
 use Rattle.app_model.specs.Subject.{SubjectParts, slot_count}
-use Rattle.cert_check.specs.Sets.{facts_at}
+use Rattle.cert_facts.specs.Sets.{facts_at}
 use Rattle.cert_check.specs.Verdict as verdict
 use Rattle.cert_check.specs.Verdict.{IsVerdict}
 use Rattle.cert_check.specs.declared.verdict.Checked.{Checked}

@@ -10,6 +10,7 @@ use std::alloc::Global;
 use std::test::Fail;
 
 mod calls;
+mod certificates;
 mod hierarchy;
 mod rows;
 mod samples;
