@@ -138,8 +138,8 @@ tagged_over x y sound alike = subst IsTagged (is_second x y alike) (tagged x y s
 
 -- ---- the certificate of a subject is that of each that is alike
 flat_same : {A B : Type 0} (f g : A → List B) → ((a : A) → f a ≡ g a) → (xs : List A) → flat_map f xs ≡ flat_map g xs
-flat_same f g same [] = refl
-flat_same f g same (x ∷ xs) = ap₂ (λ (ys zs : List B). ys ++ zs) (same x) (flat_same f g same xs)
+flat_same {B = B} f g each [] = refl
+flat_same {B = B} f g each (x ∷ xs) = ap₂ (λ (ys zs : List B). ys ++ zs) (each x) (flat_same f g each xs)
 
 module _ (x y : SubjectParts) (alike : AreAlike x y) where
   same_bodies : (set : Set) (m : ℕ) → method_bodies x set m ≡ method_bodies (beside x y) set m

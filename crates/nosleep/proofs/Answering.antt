@@ -1,5 +1,5 @@
 -- From what came of reading the files of a form to the answer.
-use Rattle.std.proofs.Common.{◌≡◌, ◌<◌, ◌≤◌, ℕ, zero, suc, List, [], ◌∷◌, length, map, Vec, Global, Option, Some, None, option_map, Result, Ok, Err, IfOk, slice_get, get_or, sym, ap, subst, refl, ◌∙◌, arith}
+use Rattle.std.proofs.Common.{◌≡◌, ◌<◌, ◌≤◌, ℕ, zero, suc, Bool, true, false, if◌then◌else◌, List, [], ◌∷◌, length, map, Vec, Global, Option, Some, None, option_map, Result, Ok, Err, IfOk, slice_get, get_or, sym, ap, subst, refl, ◌∙◌, arith}
 use Rattle.std.proofs.lemmas.List.{length-map}
 use Rattle.std.proofs.lemmas.Option.{get_or_from_slice_get, slice_get-get_or, slice_get-map}
 use Rattle.ns_base.specs.Answers.{limit_of}
@@ -14,7 +14,7 @@ use Rattle.nosleep.specs.Files.{AreSmall}
 use Rattle.nosleep.specs.Outcome.{FormHasOutcome, judged_files}
 use Rattle.nosleep.specs.Refusals.{IsOver}
 use Rattle.nosleep.specs.Taking.{IsTooLong, StopsAt}
-use Rattle.nosleep.specs.Words.{FileName, Form, Receiver, Verify, Check, dex_file, list_file, dex_names, files_of, form_of}
+use Rattle.nosleep.specs.Words.{FileName, Form, Receiver, Verify, Check, check_of, dex_file, list_file, dex_names, files_of, form_of, receiver_of, verify_of}
 
 -- no list and no DEX file of a form may be longer than a DEX file may
 in_files : (names : List (List ℕ)) (i : ℕ) → i < length (map dex_file names) → (d : FileName) → limit_of (get_or (map dex_file names) i d).limit ≤ 33554432
@@ -51,6 +51,40 @@ short_taken content form files all same taken = by_form form all (omega (arith, 
     by_form (Verify list dex) all len each = small_files (files_of (Verify list dex)) all (small_limits (Verify list dex)) len each
     by_form (Check cert list dex) [] len each = absurd (omega (arith, len))
     by_form (Check cert list dex) (one ∷ rest) len each = small_files (list_file list ∷ map dex_file dex) rest (small_limits (Check cert list dex)) (omega (arith, len)) (λ k file bytes there at. each (suc k) file bytes there at)
+
+-- a form names at least one DEX file
+abbrev NamesSome : Option Form → Type 0
+NamesSome o = (form : Form) → Some form ≡ o → 0 < length (dex_names form)
+
+in_either : (b : Bool) (one other : Option Form) → NamesSome one → NamesSome other → NamesSome (if b then one else other)
+in_either true one other first second = first
+in_either false one other first second = second
+
+in_none : NamesSome None
+in_none form e = absurd (let no : ⊥ = cc in no)
+
+in_one : (other : Form) → 0 < length (dex_names other) → NamesSome (Some other)
+in_one other some form e = let same : other ≡ form = cc in subst (λ (f : Form). 0 < length (dex_names f)) same some
+
+in_verify : (list : List ℕ) (files : List (List ℕ)) → NamesSome (verify_of list files)
+in_verify list [] = in_none
+in_verify list (file ∷ files) = in_one (Verify list (file ∷ files)) (omega arith)
+
+in_check : (cert : List ℕ) (words : List (List ℕ)) → NamesSome (check_of cert words)
+in_check cert [] = in_none
+in_check cert (list ∷ []) = in_none
+in_check cert (list ∷ file ∷ files) = in_one (Check cert list (file ∷ files)) (omega arith)
+
+in_receiver : (dex : List ℕ) (words : List (List ℕ)) → NamesSome (receiver_of dex words)
+in_receiver dex [] = in_none
+in_receiver dex (class ∷ []) = in_one (Receiver dex class) (omega arith)
+in_receiver dex (class ∷ word ∷ words) = in_none
+
+pub names_some : (words : List (List ℕ)) → NamesSome (form_of words)
+names_some [] = in_none
+names_some (form ∷ []) = in_none
+names_some (form ∷ first ∷ rest) =
+    in_either _ _ _ in_none (in_either _ _ _ (in_verify first rest) (in_either _ _ _ (in_check first rest) (in_either _ _ _ (in_receiver first rest) in_none)))
 
 module _ (words : List (List ℕ)) (content : List ℕ → Option (List ℕ)) (before now : ℕ) where
   -- an answer of this text and exit

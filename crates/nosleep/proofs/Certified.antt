@@ -1,5 +1,7 @@
 -- Certificates that are written, and those that are read.
-use Rattle.std.proofs.Common.{◌≡◌, ℕ, ◌<◌, ◌≤◌, ◌^◌, List, length, map, Result, Ok, Err, IfOk, refl, sym, ap, subst, ◌∙◌, arith}
+use Rattle.std.proofs.Common.{◌≡◌, ℕ, zero, suc, ◌<◌, ◌≤◌, ◌^◌, ◌==◌, Bool, true, List, [], ◌∷◌, length, map, Vec, Global, Result, Ok, Err, IfOk, refl, sym, ap, subst, ◌∙◌, arith}
+use Rattle.std.specs.List.{All}
+use Rattle.std.proofs.lemmas.List.{length-map}
 use Rattle.ns_base.specs.Answers.{limit_of}
 use Rattle.ns_base.specs.declared.answers.Counted.TheVariants.{CertBytes}
 use Rattle.ns_base.specs.declared.answers.Exit.TheVariants as exits
@@ -11,6 +13,7 @@ use Rattle.cert_check.specs.Verdict as verdict
 use Rattle.cert_check.specs.Verdict.{IsVerdict}
 use Rattle.cert_check.specs.declared.verdict.Checked.{Checked}
 use Rattle.cert_check.specs.declared.verdict.Checked.TheVariants.{Valid}
+use Rattle.cert_line.specs.Lines.{IsDigest}
 use Rattle.certificate.specs.Parts.{CertParts}
 use Rattle.certificate.specs.Texts.{IsCert, certificate_text}
 use Rattle.flow_model.specs.Derived.{IsClosed, Set}
@@ -51,3 +54,20 @@ pub read_answer : {E : Type 0} (x : SubjectParts) (bytes list : List ℕ) (dex :
     → IfOk r (λ a. (y : SubjectParts) → AreAlike x y → IsVerdictOn cert list dex y a.text.items a.exit) → IfOk r (λ a. (y : SubjectParts) → AreAlike x y → IsChecked bytes list dex y a.text.items a.exit)
 read_answer x bytes list dex cert (Ok a) is text on = λ y alike. IsChecked.read cert is text (on y alike)
 read_answer x bytes list dex cert (Err e) is text on = tt
+
+-- ---- what a certificate is made of
+all_made : {A B : Type 0} (P : B → Type 0) (f : A → B) → ((a : A) → P (f a)) → (xs : List A) → All P (map f xs)
+all_made P f each [] k d less = absurd (omega (arith, less))
+all_made P f each (x ∷ xs) zero d less = each x
+all_made P f each (x ∷ xs) (suc k) d less = all_made P f each xs k d (omega (arith, less))
+
+pub all_digests : ((m : List ℕ) → IsDigest (sha1 m)) → (files : List (List ℕ)) → All IsDigest (map sha1 files)
+all_digests each files = all_made IsDigest sha1 each files
+
+pub some_files : (files : List (Vec ℕ Global)) (digests : List (List ℕ)) → digests ≡ map sha1 (map (λ (v : Vec ℕ Global). v.items) files) → 0 < length files → 0 < length digests
+some_files files digests same some =
+    omega (arith, some, ap length same, length-map (map (λ (v : Vec ℕ Global). v.items) files) sha1, length-map files (λ (v : Vec ℕ Global). v.items))
+
+pub none_found : {X : Type 0} (found : List X) (b : Bool) → (b ≡ (length found == 0)) → b ≡ true → found ≡ []
+none_found [] b is e = refl
+none_found (x ∷ xs) b is e = absurd (let no : ⊥ = cc in no)

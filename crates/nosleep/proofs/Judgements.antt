@@ -1,66 +1,22 @@
 -- From the answer to why it comes.
-use Rattle.std.proofs.Common.{◌≡◌, ℕ, ◌≤◌, ◌<◌, Bool, true, false, List, [], ◌∷◌, length, Option, Some, None, Result, Ok, Err, IfOk, ◌⊎◌, inl, inr, refl, ◌∙◌, ap, sym, subst, arith, slice_get, get_or}
+use Rattle.std.proofs.Common.{◌≡◌, ℕ, ◌≤◌, ◌<◌, Bool, true, false, List, [], ◌∷◌, length, Option, Some, None, Result, Ok, Err, ◌⊎◌, inl, inr, ⊎_elim, refl, ◌∙◌, ap, sym, subst, arith, slice_get, get_or}
 use Rattle.std.proofs.lemmas.Bool.{false≢true}
 use Rattle.std.proofs.lemmas.Option.{slice_get-get_or, slice_get_within}
 use Rattle.ns_base.specs.Answers.{limit_of}
-use Rattle.ns_base.specs.Steps.{Unless}
+use Rattle.ns_base.specs.Outside.{Rose}
 use Rattle.ns_base.specs.declared.answers.Counted.{Counted}
-use Rattle.ns_base.specs.declared.answers.Counted.TheVariants.{Files, TagCells, Targets}
+use Rattle.ns_base.specs.declared.answers.Counted.TheVariants.{Files}
 use Rattle.ns_base.specs.declared.answers.Exit.{Exit}
 use Rattle.ns_base.specs.declared.answers.Exit.TheVariants as exits
-use Rattle.ns_base.specs.Outside.{Rose}
-use Rattle.app_model.specs.CallGraph.{GraphParts}
-use Rattle.app_model.specs.Components.{ComponentParts}
-use Rattle.app_model.specs.Parts.{AppParts}
-use Rattle.app_model.specs.Subject.{SubjectParts, slot_count}
-use Rattle.app_model.specs.TagTable.{TagParts}
-use Rattle.app_model.specs.Targets.{IsCallGraph, entry_count}
-use Rattle.app_link.specs.declared.link_fault.LinkFault.{LinkFault}
-use Rattle.app_link.specs.declared.link_fault.LinkFault.TheVariants as link
-use Rattle.app_link.specs.Linking.{IsLinked}
-use Rattle.app_link.proofs.FirstFault.{linked_once}
-use Rattle.component_list.specs.Binding.{bound_of}
-use Rattle.component_list.specs.Listed.{ListedParts}
-use Rattle.component_list.specs.Reading as lists
-use Rattle.component_list.specs.declared.fault.ListFault.{ListFault}
-use Rattle.dex_file.specs.Content.{FileContent}
-use Rattle.dex_file.specs.Exact.{IsFault}
-use Rattle.dex_file.specs.declared.fault.FileFault.{FileFault}
-use Rattle.dex_file.specs.declared.fault.FileFault.TheVariants.{Dex, Code, Memory}
-use Rattle.flow_model.specs.declared.policy.Violation.{Violation}
-use Rattle.flow_model.specs.Breaks.{Breaks, Candidate}
-use Rattle.flow_model.specs.Derived.{IsClosed, Set}
-use Rattle.flow_model.specs.InScope.{IsInScope, candidate_of}
-use Rattle.flow_model.specs.Policy.{AreViolations, MeetsPolicy, none_given}
-use Rattle.flow_model.specs.Rules.{Rules}
-use Rattle.flow_model.specs.TagFlow.{IsTagTableOf}
-use Rattle.run_model.specs.Machine.{run_of}
-use Rattle.run_model.specs.Soundness.{LeavesNoneHeld, StandsWell}
-use Rattle.scope_check.specs.Causes.{IsCause}
-use Rattle.scope_check.specs.declared.scoping.ScopeFault.{ScopeFault}
-use Rattle.scope_check.specs.declared.scoping.ScopeFault.TheVariants as scopes
-use Rattle.call_targets.specs.Answers as targets
-use Rattle.call_targets.specs.declared.fault.TargetFault.{TargetFault}
-use Rattle.call_targets.specs.declared.fault.TargetFault.TheVariants as target
-use Rattle.tag_flow.specs.Answers as tags
-use Rattle.tag_flow.specs.Answers.{HasCells}
-use Rattle.tag_flow.specs.declared.fault.TagFault.{TagFault}
-use Rattle.tag_flow.specs.declared.fault.TagFault.TheVariants as tag
-use Rattle.view_solver.specs.Reported.{HasLeast}
-use Rattle.view_solver.proofs.Closed.{least_closed}
-use Rattle.view_solver.proofs.Judged.{derived_violation}
-use Rattle.one_scope.specs.Alike.{AreAlike}
-use Rattle.one_scope.proofs.Graphs.{same_cells, same_targets}
-use Rattle.one_scope.proofs.Breaks.{same_breaks}
-use Rattle.nosleep.specs.declared.refusing.Answer.{Answer}
-use Rattle.nosleep.specs.Answer.{AreJudged, AreTold, BytesComeTo, AreTakenTo, IsAnswer, IsOutcome, usage, many_files, unread, too_long, read, starved}
-use Rattle.nosleep.specs.Files.{ComesTo, IsApplication, IsWithinLimits, bad_list, bad_file, bad_link, unbound, many_targets, many_cells, out_of_scope, judged, named_by}
-use Rattle.nosleep.specs.Judged.{IsJudgement, IsSafe}
-use Rattle.nosleep.specs.Outcome.{HasOutcome, IsTold, IsTooMany, counted_tag, counted_target}
-use Rattle.nosleep.specs.Refusals.{Exceeds, IsOver, IsRefused, IsRefusedAs, InFile, InLink, InList, OutOfScope, Refusal, refusal_exit, refusal_limit, refusal_text}
+use Rattle.app_model.specs.Subject.{SubjectParts}
+use Rattle.cert_check.specs.declared.verdict.Checked.{Checked}
+use Rattle.cert_check.specs.declared.verdict.Checked.TheVariants.{Valid, ListDigest, DexDigest, Shape, Broken, Unmet}
+use Rattle.nosleep.specs.Answer.{AreJudged, AreTold, BytesComeTo, AreTakenTo, IsAnswer, IsFailure, IsOutcome, Judges, usage, many_files, unread, too_long, read, starved}
+use Rattle.nosleep.specs.Judged.{IsChecked, IsJudgement, IsReceived, IsSafe, IsVerified, accepts, certified, exit_of, overlong}
+use Rattle.nosleep.specs.Refusals.{Exceeds, IsRefused, IsRefusedAs, InFile, InLink, InList, OutOfScope, Refusal, refusal_exit, refusal_limit, refusal_text}
 use Rattle.nosleep.specs.Reading.{WhereTold}
-use Rattle.nosleep.specs.Words.{FileName, Form, Receiver, Verify, dex_names, files_of, form_of}
-use Rattle.nosleep.proofs.ReadLaws.{contents_once, has_content}
+use Rattle.nosleep.specs.Words.{FileName, Form, Receiver, Verify, Check, dex_names, files_of, form_of}
+use Rattle.nosleep.proofs.Same.{outcome_of_judged}
 use Rattle.nosleep.proofs.Taking.{told_taken}
 
 -- ---- a refusal is neither an acceptance nor want of memory
@@ -106,9 +62,12 @@ verdict_exit (Unmet c k l s) = inr refl
 judgement_exit : (form : Form) (all : List (List ℕ)) (x : SubjectParts) (text : List ℕ) (exit : Exit) → IsJudgement form all x text exit → Judges form exit
 judgement_exit (Receiver dex class) all x text exit (IsReceived.reports has e) = inr e
 judgement_exit (Receiver dex class) all x text exit (accepts t is e) = inl e
+judgement_exit (Verify list dex) [] x text exit no = absurd no
 judgement_exit (Verify list dex) (bytes ∷ files) x text exit (IsVerified.reports has e) = inr (inl e)
 judgement_exit (Verify list dex) (bytes ∷ files) x text exit (certified is e) = inl e
 judgement_exit (Verify list dex) (bytes ∷ files) x text exit (overlong is e) = inr (inr e)
+judgement_exit (Check cert list dex) [] x text exit no = absurd no
+judgement_exit (Check cert list dex) (one ∷ []) x text exit no = absurd no
 judgement_exit (Check cert list dex) (one ∷ bytes ∷ files) x text exit (IsChecked.unread n wrong t e) = inr (inr e)
 judgement_exit (Check cert list dex) (one ∷ bytes ∷ files) x text exit (IsChecked.read c is t on) = ⊎_elim (λ e. inl (on.ends ∙ e)) (λ e. inr (inl (on.ends ∙ e))) (verdict_exit on.checked)
 
@@ -123,9 +82,12 @@ is_valid (Unmet c k l s) e = cc
 judgement_safe : (form : Form) (all : List (List ℕ)) (x : SubjectParts) (text : List ℕ) (exit : Exit) → exit ≡ exits.Accept → IsJudgement form all x text exit → IsSafe x
 judgement_safe (Receiver dex class) all x text exit here (IsReceived.reports has e) = absurd (let no : exits.Accept ≡ exits.Reports = sym here ∙ e in cc)
 judgement_safe (Receiver dex class) all x text exit here (accepts t is e) = is.1
+judgement_safe (Verify list dex) [] x text exit here no = absurd no
 judgement_safe (Verify list dex) (bytes ∷ files) x text exit here (IsVerified.reports has e) = absurd (let no : exits.Accept ≡ exits.Reports = sym here ∙ e in cc)
 judgement_safe (Verify list dex) (bytes ∷ files) x text exit here (certified is e) = is.accepted.1
 judgement_safe (Verify list dex) (bytes ∷ files) x text exit here (overlong is e) = absurd (let no : exits.Accept ≡ exits.Limit = sym here ∙ e in cc)
+judgement_safe (Check cert list dex) [] x text exit here no = absurd no
+judgement_safe (Check cert list dex) (one ∷ []) x text exit here no = absurd no
 judgement_safe (Check cert list dex) (one ∷ bytes ∷ files) x text exit here (IsChecked.unread n wrong t e) = absurd (let no : exits.Accept ≡ exits.Bad = sym here ∙ e in cc)
 judgement_safe (Check cert list dex) (one ∷ bytes ∷ files) x text exit here (IsChecked.read c is t on) = on.safe (is_valid on.checked (sym on.ends ∙ here))
 

@@ -1,19 +1,13 @@
 -- What files come to is one thing: where it is a subject, an answer to them is its judgement.
-use Rattle.std.proofs.Common.{◌≡◌, ℕ, ◌≤◌, ◌<◌, Bool, true, false, List, [], ◌∷◌, length, Option, Some, None, Result, Ok, Err, IfOk, ◌⊎◌, inl, inr, refl, ◌∙◌, ap, sym, subst, arith, slice_get, get_or}
+use Rattle.std.proofs.Common.{◌≡◌, ℕ, ◌<◌, Bool, List, Result, Ok, Err, ◌⊎◌, inl, inr, refl, ◌∙◌, ap, sym, subst, arith}
 use Rattle.std.proofs.lemmas.Bool.{false≢true}
-use Rattle.std.proofs.lemmas.Option.{slice_get-get_or, slice_get_within}
 use Rattle.ns_base.specs.Answers.{limit_of}
-use Rattle.ns_base.specs.Steps.{Unless}
-use Rattle.ns_base.specs.declared.answers.Counted.{Counted}
-use Rattle.ns_base.specs.declared.answers.Counted.TheVariants.{Files, TagCells, Targets}
+use Rattle.ns_base.specs.declared.answers.Counted.TheVariants.{TagCells, Targets}
 use Rattle.ns_base.specs.declared.answers.Exit.{Exit}
-use Rattle.ns_base.specs.declared.answers.Exit.TheVariants as exits
-use Rattle.ns_base.specs.Outside.{Rose}
 use Rattle.app_model.specs.CallGraph.{GraphParts}
 use Rattle.app_model.specs.Components.{ComponentParts}
 use Rattle.app_model.specs.Parts.{AppParts}
-use Rattle.app_model.specs.Subject.{SubjectParts, slot_count}
-use Rattle.app_model.specs.TagTable.{TagParts}
+use Rattle.app_model.specs.Subject.{SubjectParts}
 use Rattle.app_model.specs.Targets.{IsCallGraph, entry_count}
 use Rattle.app_link.specs.declared.link_fault.LinkFault.{LinkFault}
 use Rattle.app_link.specs.declared.link_fault.LinkFault.TheVariants as link
@@ -21,47 +15,24 @@ use Rattle.app_link.specs.Linking.{IsLinked}
 use Rattle.app_link.proofs.FirstFault.{linked_once}
 use Rattle.component_list.specs.Binding.{bound_of}
 use Rattle.component_list.specs.Listed.{ListedParts}
-use Rattle.component_list.specs.Reading as lists
 use Rattle.component_list.specs.declared.fault.ListFault.{ListFault}
 use Rattle.dex_file.specs.Content.{FileContent}
 use Rattle.dex_file.specs.Exact.{IsFault}
 use Rattle.dex_file.specs.declared.fault.FileFault.{FileFault}
 use Rattle.dex_file.specs.declared.fault.FileFault.TheVariants.{Dex, Code, Memory}
-use Rattle.flow_model.specs.declared.policy.Violation.{Violation}
 use Rattle.flow_model.specs.Breaks.{Breaks, Candidate}
-use Rattle.flow_model.specs.Derived.{IsClosed, Set}
-use Rattle.flow_model.specs.InScope.{IsInScope, candidate_of}
-use Rattle.flow_model.specs.Policy.{AreViolations, MeetsPolicy, none_given}
-use Rattle.flow_model.specs.Rules.{Rules}
+use Rattle.flow_model.specs.InScope.{IsInScope}
 use Rattle.flow_model.specs.TagFlow.{IsTagTableOf}
-use Rattle.run_model.specs.Machine.{run_of}
-use Rattle.run_model.specs.Soundness.{LeavesNoneHeld, StandsWell}
 use Rattle.scope_check.specs.Causes.{IsCause}
 use Rattle.scope_check.specs.declared.scoping.ScopeFault.{ScopeFault}
 use Rattle.scope_check.specs.declared.scoping.ScopeFault.TheVariants as scopes
-use Rattle.call_targets.specs.Answers as targets
-use Rattle.call_targets.specs.declared.fault.TargetFault.{TargetFault}
-use Rattle.call_targets.specs.declared.fault.TargetFault.TheVariants as target
-use Rattle.tag_flow.specs.Answers as tags
 use Rattle.tag_flow.specs.Answers.{HasCells}
-use Rattle.tag_flow.specs.declared.fault.TagFault.{TagFault}
-use Rattle.tag_flow.specs.declared.fault.TagFault.TheVariants as tag
-use Rattle.view_solver.specs.Reported.{HasLeast}
-use Rattle.view_solver.proofs.Closed.{least_closed}
-use Rattle.view_solver.proofs.Judged.{derived_violation}
-use Rattle.one_scope.specs.Alike.{AreAlike}
 use Rattle.one_scope.proofs.Graphs.{same_cells, same_targets}
 use Rattle.one_scope.proofs.Breaks.{same_breaks}
-use Rattle.nosleep.specs.declared.refusing.Answer.{Answer}
-use Rattle.nosleep.specs.Answer.{AreJudged, AreTold, BytesComeTo, AreTakenTo, IsAnswer, IsOutcome, usage, many_files, unread, too_long, read, starved}
+use Rattle.nosleep.specs.Answer.{IsOutcomeBy}
 use Rattle.nosleep.specs.Files.{ComesTo, IsApplication, IsWithinLimits, bad_list, bad_file, bad_link, unbound, many_targets, many_cells, out_of_scope, judged, named_by}
-use Rattle.nosleep.specs.Judged.{IsJudgement, IsSafe}
-use Rattle.nosleep.specs.Outcome.{HasOutcome, IsTold, IsTooMany, counted_tag, counted_target}
-use Rattle.nosleep.specs.Refusals.{Exceeds, IsOver, IsRefused, IsRefusedAs, InFile, InLink, InList, OutOfScope, Refusal, refusal_exit, refusal_limit, refusal_text}
-use Rattle.nosleep.specs.Reading.{WhereTold}
-use Rattle.nosleep.specs.Words.{FileName, Form, Receiver, Verify, dex_names, files_of, form_of}
+use Rattle.nosleep.specs.Refusals.{IsRefused, InFile, InLink, OutOfScope, Refusal}
 use Rattle.nosleep.proofs.ReadLaws.{contents_once, has_content}
-use Rattle.nosleep.proofs.Taking.{told_taken}
 
 not_both : {X E : Type 0} (x : X) (e : E) (r : Result X E) → r ≡ Ok x → r ≡ Err e → ⊥
 not_both x e r p q = cc

@@ -1,67 +1,31 @@
--- From the violations of a subject, and from a verdict, to the answers.
-use Rattle.std.proofs.Common.{◌≡◌, ℕ, ◌≤◌, ◌<◌, Bool, true, false, List, [], ◌∷◌, length, Option, Some, None, Result, Ok, Err, IfOk, ◌⊎◌, inl, inr, refl, ◌∙◌, ap, sym, subst, arith, slice_get, get_or}
-use Rattle.std.proofs.lemmas.Bool.{false≢true}
-use Rattle.std.proofs.lemmas.Option.{slice_get-get_or, slice_get_within}
+-- From the violations of a subject to the answers.
+use Rattle.std.proofs.Common.{◌≡◌, ◌≢◌, ℕ, ◌≤◌, ◌<◌, List, [], length, map, Result, Ok, Err, IfOk, refl, sym, subst, arith}
 use Rattle.ns_base.specs.Answers.{limit_of}
-use Rattle.ns_base.specs.Steps.{Unless}
-use Rattle.ns_base.specs.declared.answers.Counted.{Counted}
-use Rattle.ns_base.specs.declared.answers.Counted.TheVariants.{Files, TagCells, Targets}
+use Rattle.ns_base.specs.declared.answers.Counted.TheVariants.{CertBytes}
 use Rattle.ns_base.specs.declared.answers.Exit.{Exit}
-use Rattle.ns_base.specs.declared.answers.Exit.TheVariants as exits
-use Rattle.ns_base.specs.Outside.{Rose}
-use Rattle.app_model.specs.CallGraph.{GraphParts}
 use Rattle.app_model.specs.Components.{ComponentParts}
 use Rattle.app_model.specs.Parts.{AppParts}
 use Rattle.app_model.specs.Subject.{SubjectParts, slot_count}
-use Rattle.app_model.specs.TagTable.{TagParts}
-use Rattle.app_model.specs.Targets.{IsCallGraph, entry_count}
-use Rattle.app_link.specs.declared.link_fault.LinkFault.{LinkFault}
-use Rattle.app_link.specs.declared.link_fault.LinkFault.TheVariants as link
-use Rattle.app_link.specs.Linking.{IsLinked}
-use Rattle.app_link.proofs.FirstFault.{linked_once}
-use Rattle.component_list.specs.Binding.{bound_of}
-use Rattle.component_list.specs.Listed.{ListedParts}
-use Rattle.component_list.specs.Reading as lists
-use Rattle.component_list.specs.declared.fault.ListFault.{ListFault}
-use Rattle.dex_file.specs.Content.{FileContent}
-use Rattle.dex_file.specs.Exact.{IsFault}
-use Rattle.dex_file.specs.declared.fault.FileFault.{FileFault}
-use Rattle.dex_file.specs.declared.fault.FileFault.TheVariants.{Dex, Code, Memory}
+use Rattle.cert_check.specs.Verdict.{IsVerdict}
+use Rattle.cert_check.specs.declared.verdict.Checked.TheVariants.{Valid}
+use Rattle.certificate.specs.Parts.{CertParts}
+use Rattle.certificate.specs.Texts.{IsCert, certificate_text}
 use Rattle.flow_model.specs.declared.policy.Violation.{Violation}
-use Rattle.flow_model.specs.Breaks.{Breaks, Candidate}
 use Rattle.flow_model.specs.Derived.{IsClosed, Set}
-use Rattle.flow_model.specs.InScope.{IsInScope, candidate_of}
 use Rattle.flow_model.specs.Policy.{AreViolations, MeetsPolicy, none_given}
 use Rattle.flow_model.specs.Rules.{Rules}
-use Rattle.flow_model.specs.TagFlow.{IsTagTableOf}
 use Rattle.run_model.specs.Machine.{run_of}
 use Rattle.run_model.specs.Soundness.{LeavesNoneHeld, StandsWell}
-use Rattle.scope_check.specs.Causes.{IsCause}
-use Rattle.scope_check.specs.declared.scoping.ScopeFault.{ScopeFault}
-use Rattle.scope_check.specs.declared.scoping.ScopeFault.TheVariants as scopes
-use Rattle.call_targets.specs.Answers as targets
-use Rattle.call_targets.specs.declared.fault.TargetFault.{TargetFault}
-use Rattle.call_targets.specs.declared.fault.TargetFault.TheVariants as target
-use Rattle.tag_flow.specs.Answers as tags
-use Rattle.tag_flow.specs.Answers.{HasCells}
-use Rattle.tag_flow.specs.declared.fault.TagFault.{TagFault}
-use Rattle.tag_flow.specs.declared.fault.TagFault.TheVariants as tag
+use Rattle.sha1.specs.Sha1.{sha1}
 use Rattle.view_solver.specs.Reported.{HasLeast}
 use Rattle.view_solver.proofs.Closed.{least_closed}
 use Rattle.view_solver.proofs.Judged.{derived_violation}
 use Rattle.one_scope.specs.Alike.{AreAlike}
-use Rattle.one_scope.proofs.Graphs.{same_cells, same_targets}
-use Rattle.one_scope.proofs.Breaks.{same_breaks}
 use Rattle.nosleep.specs.declared.refusing.Answer.{Answer}
-use Rattle.nosleep.specs.Answer.{AreJudged, AreTold, BytesComeTo, AreTakenTo, IsAnswer, IsOutcome, usage, many_files, unread, too_long, read, starved}
-use Rattle.nosleep.specs.Files.{ComesTo, IsApplication, IsWithinLimits, bad_list, bad_file, bad_link, unbound, many_targets, many_cells, out_of_scope, judged, named_by}
-use Rattle.nosleep.specs.Judged.{IsJudgement, IsSafe}
-use Rattle.nosleep.specs.Outcome.{HasOutcome, IsTold, IsTooMany, counted_tag, counted_target}
-use Rattle.nosleep.specs.Refusals.{Exceeds, IsOver, IsRefused, IsRefusedAs, InFile, InLink, InList, OutOfScope, Refusal, refusal_exit, refusal_limit, refusal_text}
-use Rattle.nosleep.specs.Reading.{WhereTold}
-use Rattle.nosleep.specs.Words.{FileName, Form, Receiver, Verify, dex_names, files_of, form_of}
-use Rattle.nosleep.proofs.ReadLaws.{contents_once, has_content}
-use Rattle.nosleep.proofs.Taking.{told_taken}
+use Rattle.nosleep.specs.Certified.{IsCertificateOf}
+use Rattle.nosleep.specs.Certifying.{IsWritten, short, long}
+use Rattle.nosleep.specs.Judged.{IsAccepted, IsChecked, IsReceived, IsSafe, IsVerified, accepts, certified, overlong}
+use Rattle.nosleep.specs.Outcome.{IsReport, IsTold, none, some}
 
 told_of : (x y : SubjectParts) (violations : List Violation) (text : List ℕ) (exit : Exit) → AreAlike x y → IsTold x.app x.list violations text exit → IsTold y.app y.list violations text exit
 told_of x y violations text exit alike t =
@@ -86,12 +50,12 @@ told_answer x violations (Err e) each t = tt
 pub all_safe : (x : SubjectParts) (violations : List Violation) → AreViolations x violations → ((l : ℕ) → l < slot_count x → HasLeast x l)
     → ((l : ℕ) (set : Set) → l < slot_count x → IsClosed (Rules x l) set → MeetsPolicy x l set → (choices : List ℕ) → StandsWell x l (run_of x choices))
     → ((l : ℕ) (set : Set) → l < slot_count x → IsClosed (Rules x l) set → MeetsPolicy x l set → (choices : List ℕ) → LeavesNoneHeld x l (run_of x choices)) → violations ≡ [] → IsSafe x
-all_safe x violations are least stands leaves none l below choices =
+all_safe x violations are least stands leaves empty l below choices =
     let set = (least l below).0 in
     let is = (least l below).1 in
     let closed = least_closed (Rules x l) none_given set is in
-    let empty : AreViolations x [] = subst (λ (vs : List Violation). AreViolations x vs) none are in
-    let meets : MeetsPolicy x l set = λ c k s v. (let found = (empty.exact (record { component = c; callback = k; lock = l; status = s })).1 (derived_violation x l set c k s is v) in omega (arith, found.1)) in
+    let nothing : AreViolations x [] = subst (λ (vs : List Violation). AreViolations x vs) empty are in
+    let meets : MeetsPolicy x l set = λ c k s v. (let found = (nothing.exact (record { component = c; callback = k; lock = l; status = s })).1 (derived_violation x l set c k s is v) in omega (arith, found.1)) in
     (stands l set below closed meets choices, leaves l set below closed meets choices)
 
 

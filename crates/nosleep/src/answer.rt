@@ -67,6 +67,7 @@ fn dex_count(asked: Asked<'_>) -> usize
 /// The answer to the bytes of a form's files.
 fn answer_files(alloc: Global, asked: Asked<'_>, files: &[Vec<u8>]) -> Result<Answer, AllocError>
     requires few { length (dex_names (form_by asked)) ≤ 16 }
+    requires some { 0 < length (dex_names (form_by asked)) }
     requires each { length files.now ≡ length (files_of (form_by asked)) }
     requires short { AreSmall (judged_files (form_by asked) files.now) }
     ensures { IfOk result (λ a. FormHasOutcome (form_by asked.entry) (map (λ bytes. bytes.items) files.now) a.text.items a.exit) }
@@ -101,6 +102,7 @@ fn answer_receiver(alloc: Global, class: &str, files: &[Vec<u8>]) -> Result<Answ
 fn answer_verify(alloc: Global, list: &[u8], files: &[Vec<u8>]) -> Result<Answer, AllocError>
     requires list { length list.now ≤ 33554432 }
     requires few { length files.now ≤ 16 }
+    requires some { 0 < length files.now }
     requires short { AreSmall files.now }
     ensures { (one : List ℕ) (dex : List (List ℕ)) → IfOk result (λ a. FormHasOutcome (Verify one dex) (list.now ∷ map (λ bytes. bytes.items) files.now) a.text.items a.exit) }
 {

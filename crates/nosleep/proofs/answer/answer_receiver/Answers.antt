@@ -5,10 +5,10 @@ use Rattle.nosleep.proofs.answer.answer_receiver.Goals as goal
 
 pub returns-in-Subject : goal.returns-in-Subject
 returns-in-Subject c = λ dex.
-    let comes = rw c.in-Subject.is at c.in_ok-answer.ensures in
+    let comes = rw c.in-Subject.is at c.in_ok-subject.ensures in
     judged_form (Receiver dex c.args.class.now) (map (λ v. v.items) c.args.files.now) _ c.judge.result (rw c.in_ok-listed.ensures.is at comes) c.judge.ensures
 
-pub returns-in-Refused : goal.returns-in-Refused
-returns-in-Refused c = λ dex.
-    let comes = rw c.in-Refused.is at c.in_ok-answer.ensures in
+pub returns : goal.returns
+returns c = λ dex.
+    let comes = rw c.in-Refused.is at c.in_ok-subject.ensures in
     (Err comes.0, rw c.in_ok-listed.ensures.is at comes.1, comes.2)

@@ -5,9 +5,9 @@ use Rattle.nosleep.proofs.answer.answer_verify.Goals as goal
 
 pub returns-in-Subject : goal.returns-in-Subject
 returns-in-Subject c = λ one dex.
-    judged_form (Verify one dex) (c.args.list.now ∷ map (λ v. v.items) c.args.files.now) _ c.certify.result (rw c.in-Subject.is at c.in_ok-answer.ensures) c.certify.ensures
+    judged_form (Verify one dex) (c.args.list.now ∷ map (λ v. v.items) c.args.files.now) _ c.certify.result (rw c.in-Subject.is at c.in_ok-subject.ensures) c.certify.ensures
 
 pub returns-in-Refused : goal.returns-in-Refused
 returns-in-Refused c = λ one dex.
-    let comes = rw c.in-Refused.is at c.in_ok-answer.ensures in
+    let comes = rw c.in-Refused.is at c.in_ok-subject.ensures in
     (Err comes.0, comes.1, comes.2)

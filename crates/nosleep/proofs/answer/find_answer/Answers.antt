@@ -4,7 +4,7 @@ use Rattle.ns_base.specs.Answers.{limit_of}
 use Rattle.ns_base.specs.declared.answers.Counted.TheVariants.{Files}
 use Rattle.nosleep.specs.Asked.{form_by}
 use Rattle.nosleep.specs.Words.{FileName, dex_names}
-use Rattle.nosleep.proofs.Answering.{all_read, formless, short_taken, stopped_failed, stopped_long, too_many}
+use Rattle.nosleep.proofs.Answering.{all_read, formless, names_some, short_taken, stopped_failed, stopped_long, too_many}
 use Rattle.nosleep.proofs.answer.find_answer.Goals as goal
 
 pub returns-in_default-clause-answer : goal.returns-in_default-clause-answer
@@ -62,3 +62,6 @@ returns-clause-answer g c =
     let outcome = rw c.deref-in-Whole.ensures.value at c.answer_files.ensures in
     all_read (map string_bytes c.args.words.now) (g.F.Shelf.content c.args.shelf.now) (g.F.Shelf.faults c.args.shelf.now) (g.F.Shelf.faults c.take_files.new.shelf)
     (form_by c.in-Some.asked) c.in-Some.ensures few c.deref.result.now (c.deref.ensures.value ∙ c.in_ok-names.ensures) (map (λ v. v.items) c.in-Whole.files.items) c.answer_files.result taken outcome
+
+pub answer_files-requires-clause-some : goal.answer_files-requires-clause-some
+answer_files-requires-clause-some g c = names_some (map string_bytes c.args.words.now) (form_by c.in-Some.asked) c.in-Some.ensures

@@ -1,0 +1,38 @@
+use Rattle.std.proofs.Common.{ℕ, ◌<◌, List, [], length, map, refl, sym, ap, subst, ◌∙◌, arith}
+use Rattle.std.specs.List.{All}
+use Rattle.std.proofs.lemmas.List.{length-map}
+use Rattle.cert_line.specs.Lines.{IsDigest}
+use Rattle.certificate.specs.Parts.{CertParts}
+use Rattle.flow_model.specs.declared.policy.Violation.{Violation}
+use Rattle.flow_model.specs.Policy.{AreViolations}
+use Rattle.sha1.specs.Sha1.{sha1}
+use Rattle.nosleep.proofs.Alike.{certificate_over, least_over, tagged_over, violations_over}
+use Rattle.nosleep.proofs.Certified.{all_digests, none_found, some_files, valid_over}
+use Rattle.nosleep.proofs.Told.{all_safe, report_answer, written_answer}
+use Rattle.nosleep.proofs.certifying.certify.Goals as goal
+
+pub returns-then-not-is_empty : goal.returns-then-not-is_empty
+returns-then-not-is_empty c =
+    report_answer c.args.list.now (map (λ v. v.items) c.args.files.now) c.args.subject.now c.in-Ok.found.items c.report.result
+    (λ y alike. violations_over c.args.subject.now y alike c.in-Ok.found.items c.in-Ok.ensures.exact) (search rules) c.report.ensures
+
+pub returns : goal.returns
+returns c =
+    let x = c.args.subject.now in
+    let dex = map (λ v. v.items) c.args.files.now in
+    let cert : CertParts = record { list = c.digest.result; dex = c.in_ok-digests_of.field-0.items; locks = c.in_ok-solved.solved.parts.items } in
+    let same = c.in_ok-digests_of.ensures in
+    let solved = c.in_ok-solved.ensures.parts in
+    let empty = none_found c.in-Ok.found.items _ c.is_empty.ensures c.if-not-is_empty.false in
+    let are : AreViolations x [] = subst (λ (vs : List Violation). AreViolations x vs) empty c.in-Ok.ensures.exact in
+    let digests : All IsDigest cert.dex = subst (λ (ds : List (List ℕ)). All IsDigest ds) (sym same) (all_digests c.written_certificates.ensures.digest dex) in
+    let one : IsDigest cert.list = subst IsDigest (sym c.digest.ensures) (c.written_certificates.ensures.digest c.args.list.now) in
+    let some : 0 < length cert.dex = some_files c.args.files.now cert.dex same c.requires in
+    written_answer c.args.list.now dex x cert c.write.result (c.written_certificates.ensures.text x cert c.told.ensures solved one digests some)
+    (λ y alike.
+    let tagged = tagged_over x y c.told.ensures alike in
+    let over = violations_over x y alike [] are in
+    (certificate_over x y alike (sha1 c.args.list.now) (map sha1 dex) cert c.digest.ensures same solved,
+    (over, all_safe y [] over (least_over x y alike c.in-Ok.ensures.least) (λ l set. c.tagged_soundness.ensures.runs y l set tagged) (λ l set. c.tagged_soundness.ensures.counts y l set tagged) refl),
+    valid_over x cert c.args.list.now dex c.digest.ensures same (c.written_certificates.ensures.accepted x cert c.told.ensures are solved) c.alike_verdicts.ensures.accepted c.accepted_certificates.ensures.valid y alike))
+    c.write.ensures

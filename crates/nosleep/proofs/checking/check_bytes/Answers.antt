@@ -1,0 +1,13 @@
+use Rattle.std.proofs.Common.{ap, map, ◌∙◌}
+use Rattle.nosleep.specs.Judged.{IsChecked}
+use Rattle.nosleep.proofs.Certified.{read_answer}
+use Rattle.nosleep.proofs.checking.check_bytes.Goals as goal
+
+pub returns-in-Ok : goal.returns-in-Ok
+returns-in-Ok c =
+    read_answer c.args.subject.now c.args.cert.now c.args.list.now (map (λ v. v.items) c.args.files.now) _ c.check_read.result
+    c.in-Ok.ensures.found.0 c.in-Ok.ensures.found.1 c.check_read.ensures
+
+pub returns-in_ok-bad_certificate-in-Err-Line : goal.returns-in_ok-bad_certificate-in-Err-Line
+returns-in_ok-bad_certificate-in-Err-Line c = λ y alike.
+    IsChecked.unread c.in-Err-Line.line c.in-Err-Line.ensures.line (ap (λ v. v.items) c.bad.ensures.1 ∙ c.in_ok-bad_certificate-in-Err-Line.ensures) c.bad.ensures.0
