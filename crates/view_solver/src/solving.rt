@@ -82,11 +82,7 @@ pub fn solve<R: Rows>(
 }
 
 /// The least solution of the flow rules for a lock field, by the rules of statuses.
-pub fn solve_lock(
-    alloc: Global,
-    subject: &Subject,
-    lock: LockNo,
-) -> Result<Solution, OutOfMemory>
+pub fn solve_lock(alloc: Global, subject: &Subject, lock: LockNo) -> Result<Solution, OutOfMemory>
     requires { lock.0 < slot_count subject.now }
     ensures least { IfOk result (λ solution. IsLeast (Rules subject.now lock.0) none_given (holds solution)) }
     ensures places { IfOk result (λ solution. HasPlaces subject.now solution) }
