@@ -7,12 +7,14 @@ PROGRAM is crates/nosleep/out/nosleep where none is named. No clause speaks of w
 with the exit of the top call and hands on all words, that the adapters reach real files, pipes and standard output,
 and that memory is found where there is memory.
 """
+import hashlib
 import os
 import pathlib
 import shutil
 import subprocess
 import sys
 import tempfile
+from dataclasses import dataclass
 
 import assemble
 import sample_dex
@@ -20,6 +22,7 @@ import sample_dex
 TOP = pathlib.Path(__file__).resolve().parent.parent
 LIMIT = 33_554_432
 LIST_LIMIT = 1_048_576
+CERT_LIMIT = 268_435_456
 TARGETS = 16_777_216
 SECONDS = 60
 
@@ -32,10 +35,29 @@ LEAK = b"""report 1 of 2: Lapp/R;->wl is C1 after Lapp/R;->onReceive
 report 2 of 2: Lapp/R;->wl is L after Lapp/R;->onReceive
 """
 R = "Lapp/R;"
-ACCEPTED = b"accept\n"
 LIST = b'[[component]]\nkind = "receiver"\nclass = "Lapp/R;"\n'
 # A name that no folder takes. Its text is longer than a pipe holds, so that it cannot go in one piece.
 LONG = "\x01" * 30_000
+
+ROWS = b"""lock 0 Lapp/R;->wl
+view 0 0 03
+body 0 A 02 01 0101010101010101010202040402
+body 0 C0 02 02 0202020202020202020202040402
+end
+"""
+
+
+@dataclass
+class Certificate:
+    """The text of a certificate, by its rows and the files that it is of."""
+    rows: bytes
+    listed: str
+    file: str
+
+    def text(self, folder):
+        digests = [hashlib.sha1(pathlib.Path(folder, name).read_bytes()).hexdigest() for name in (self.listed, self.file)]
+        return f"nosleep 1\nlist {digests[0]}\ndex {digests[1]}\n".encode() + self.rows
+
 
 # What is shown, the words, the file on standard input, the status, and the text.
 RUNS = [
@@ -56,17 +78,24 @@ RUNS = [
     ("a pipe", ["receiver", "/dev/stdin", R], "leaks.dex", 1, LEAK),
     ("a pipe of many pieces", ["receiver", "/dev/stdin", R], "large.dex", 0, b"accept\n"),
     ("a pipe that gives too many bytes", ["receiver", "/dev/stdin", R], "more.dex", 8, b"limit FileBytes\n"),
-    ("a list", ["verify", "list.toml", "works.dex"], None, 0, b"accept\n"),
+    ("a list", ["verify", "list.toml", "works.dex"], None, 0, Certificate(ROWS, "list.toml", "works.dex")),
+    ("a certificate", ["check", "works.cert", "list.toml", "works.dex"], None, 0, b"valid\n"),
+    ("a certificate of another list", ["check", "works.cert", "most.toml", "works.dex"], None, 10, b"broken digest list\n"),
+    ("a certificate without a return", ["check", "broken.cert", "list.toml", "works.dex"], None, 10, b"broken I1 0 0 0 27\n"),
+    ("an empty certificate", ["check", "/dev/null", "list.toml", "works.dex"], None, 3, b"bad certificate line 1\n"),
+    ("a certificate that is too long", ["check", "more.cert", "list.toml", "works.dex"], None, 8, b"limit CertBytes\n"),
+    ("an absent certificate", ["check", "absent.cert", "list.toml", "works.dex"], None, 5, b"cannot read absent.cert\n"),
+    ("a certificate and a list", ["check", "works.cert", "list.toml"], None, 4, HELP),
     ("a list of a leaking receiver", ["verify", "list.toml", "leaks.dex"], None, 1, LEAK),
     ("a list and no file", ["verify", "list.toml"], None, 4, HELP),
     ("an empty list", ["verify", "/dev/null", "works.dex"], None, 2, b"refused N8 Lapp/R;->onReceive 0 11\n"),
-    ("as many targets of calls as there may be", ["verify", "/dev/null", "targets.dex"], None, 0, b"accept\n"),
+    ("as many targets of calls as there may be", ["verify", "/dev/null", "targets.dex"], None, 0, Certificate(b"end\n", "/dev/null", "targets.dex")),
     ("one more", ["verify", "/dev/null", "more_targets.dex"], None, 8, b"limit Targets\n"),
     ("too many cells of tags", ["receiver", "wide.dex", R], None, 8, b"limit TagCells\n"),
     ("a list that is none", ["verify", "works.dex", "works.dex"], None, 3, b"bad list Text\n"),
     ("a folder as a list", ["verify", ".", "works.dex"], None, 5, b"cannot read .\n"),
-    ("a pipe as a list", ["verify", "/dev/stdin", "works.dex"], "list.toml", 0, b"accept\n"),
-    ("as long a list as there may be", ["verify", "most.toml", "works.dex"], None, 0, b"accept\n"),
+    ("a pipe as a list", ["verify", "/dev/stdin", "works.dex"], "list.toml", 0, Certificate(ROWS, "list.toml", "works.dex")),
+    ("as long a list as there may be", ["verify", "most.toml", "works.dex"], None, 0, Certificate(ROWS, "most.toml", "works.dex")),
     ("a list of one byte more", ["verify", "more.toml", "works.dex"], None, 8, b"limit ListBytes\n"),
     ("a file twice", ["verify", "list.toml", "works.dex", "works.dex"], None, 3, b"bad link DuplicateClass Lapp/R; 1 0\n"),
     ("a second file that is absent", ["verify", "list.toml", "works.dex", "absent.dex"], None, 5, b"cannot read absent.dex\n"),
@@ -80,28 +109,37 @@ def reports(callback, *statuses, lock="Lapp/R;->wl"):
                    for number, status in enumerate(statuses, 1)).encode()
 
 
-# Whole applications, those of sample_apps among them: what is shown, the file, the components, the status, and the text.
+def lock(*views, name="Lapp/R;->wl"):
+    """The lines of a certificate's only lock field, but those of methods: its name, and what may be between callbacks."""
+    return [f"lock 0 {name}", *(f"view {view}" for view in views)]
+
+
+# Whole applications, those of sample_apps among them: what is shown, the file, the components, the status, and the text; of
+# a certificate the lines of lock fields and views.
 USES = [
-    ("no component, and a class without members", "bare", [], 0, ACCEPTED),
+    ("no component, and a class without members", "bare", [], 0, []),
     ("an outside call throws while a lock is held, and the handler returns", "thrown_leaks", ["receiver R"], 1, LEAK),
-    ("each throw comes to a release", "thrown_released", ["receiver R"], 0, ACCEPTED),
-    ("an uncounted lock, acquired at each start and released once", "uncounted_service", ["service S"], 0, ACCEPTED),
+    ("each throw comes to a release", "thrown_released", ["receiver R"], 0, lock("0 0 03")),
+    ("an uncounted lock, acquired at each start and released once", "uncounted_service", ["service S"], 0,
+     lock("0 0 21", "0 1 60", name="Lapp/S;->wl")),
     ("a counted one", "counted_service", ["service S"], 1,
      reports("Lapp/S;->onDestroy", "C1", "C2", "CT", "L", lock="Lapp/S;->wl")),
-    ("each resume makes a new lock and releases the last one", "renewing_activity", ["activity A"], 0, ACCEPTED),
-    ("a runnable releases the activity's lock through a getter", "inner_class", ["activity A", "runnable A$1"], 0, ACCEPTED),
+    ("each resume makes a new lock and releases the last one", "renewing_activity", ["activity A"], 0,
+     lock("0 0 03", "0 1 03", "0 2 03", "0 3 04", "0 4 02", "0 5 03", "0 6 03", name="Lapp/A;->wl")),
+    ("a runnable releases the activity's lock through a getter", "inner_class", ["activity A", "runnable A$1"], 0,
+     lock("0 0 03", "0 1 02", "0 2 02", "0 3 06", "0 4 02", "0 5 02", "0 6 02", "1 0 07", name="Lapp/A;->wl")),
     ("a call that may store comes between the read and the release", "locks", ["receiver Renews"], 2,
      b"refused N4 Lapp/Renews;->onReceive 2 5\n"),
     ("methods call each other while they hold", "mutual_holds", ["receiver R"], 1,
      reports("Lapp/R;->onReceive", "C1", "C2", "CT", "L")),
-    ("methods call each other after they released", "mutual_frees", ["receiver R"], 0, ACCEPTED),
+    ("methods call each other after they released", "mutual_frees", ["receiver R"], 0, lock("0 0 03")),
     ("a service ends while another one holds", "two_services", ["service S", "service T"], 1,
      reports("Lapp/S;->onDestroy", "C1", lock="Lapp/W;->wl")),
     ("a callback that calls native code", "calls_out", ["receiver NativeCall"], 2, b"refused N1 Lapp/NativeCall;->onReceive 6 1\n"),
     ("a class by its name", "calls_out", ["receiver Reflects"], 2, b"refused N2 Lapp/Reflects;->onReceive 9 2\n"),
     ("an object of a class below a thread's", "calls_out", ["receiver MakesThread"], 2, b"refused N3 Lapp/MakesThread;->onReceive 13 0\n"),
-    ("a class initialises its lock field", "initialises", ["receiver R"], 0, ACCEPTED),
-    ("64 lock fields that nothing touches", "locks64", [], 0, ACCEPTED),
+    ("a class initialises its lock field", "initialises", ["receiver R"], 0, lock("0 0 03")),
+    ("64 lock fields that nothing touches", "locks64", [], 0, [f"lock {number} Lapp/L;->f{number}" for number in range(64)]),
     ("65 of them", "locks65", [], 8, b"limit Locks\n"),
 ]
 
@@ -113,9 +151,20 @@ def component(row):
 
 
 def is_use_wrong(program, folder, shows, file, rows, status, text):
-    """Whether an application under a list is answered otherwise than it should be."""
+    """Whether an application under a list is answered otherwise than it should be. What is written of an accepted one is kept,
+    and checked."""
     (folder / "use.toml").write_text("".join(map(component, rows)))
-    return differs(shows, run(program, ["verify", "use.toml", f"{file}.dex"], folder), status, text)
+    words = ["use.toml", f"{file}.dex"]
+    ran = run(program, ["verify", *words], folder)
+    if status != 0:
+        return differs(shows, ran, status, text)
+    head = Certificate(b"", *words).text(folder)
+    lines = [line for line in ran.stdout.decode().splitlines() if line.startswith(("lock ", "view "))]
+    if not ran.stdout.startswith(head) or not ran.stdout.endswith(b"end\n") or lines != text:
+        print(f"{shows}: another certificate: {ran.stdout[:400]!r}")
+        return True
+    (folder / "use.cert").write_bytes(ran.stdout)
+    return differs(shows, ran, 0, ran.stdout) or differs(f"{shows}, checked", run(program, ["check", "use.cert", *words], folder), 0, b"valid\n")
 
 
 def lay_out(folder):
@@ -128,6 +177,11 @@ def lay_out(folder):
         with open(folder / f"{name}.dex", "wb") as file:
             file.truncate(size)
     (folder / "list.toml").write_bytes(LIST)
+    text = Certificate(ROWS, "list.toml", "works.dex").text(folder)
+    (folder / "works.cert").write_bytes(text)
+    (folder / "broken.cert").write_bytes(text.replace(b"body 0 A 02", b"body 0 A 00"))
+    with open(folder / "more.cert", "wb") as file:
+        file.truncate(CERT_LIMIT + 1)
     for file in (TOP / "crates/sample_apps/data").glob("*.dex"):
         shutil.copy(file, folder)
     for count in (64, 65):
@@ -179,6 +233,7 @@ def main():
         wrong = is_untaken_wrong(program, folder)
         for shows, words, given, status, text in RUNS:
             fed = (folder / given).read_bytes() if given else b""
+            text = text.text(folder) if isinstance(text, Certificate) else text
             wrong |= differs(shows, run(program, words, folder, fed), status, text)
         for use in USES:
             wrong |= is_use_wrong(program, folder, *use)

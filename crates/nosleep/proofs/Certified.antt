@@ -1,7 +1,9 @@
 -- Certificates that are written, and those that are read.
-use Rattle.std.proofs.Common.{◌≡◌, ℕ, zero, suc, ◌<◌, ◌≤◌, ◌^◌, ◌==◌, Bool, true, List, [], ◌∷◌, length, map, Vec, Global, Result, Ok, Err, IfOk, refl, sym, ap, subst, ◌∙◌, arith}
+use Rattle.std.proofs.Common.{◌≡◌, ℕ, zero, suc, ◌<◌, ◌≤◌, ◌^◌, ◌==◌, Bool, true, false, List, [], ◌∷◌, length, map, Vec, Global, Result, Ok, Err, IfOk, refl, sym, ap, subst, ◌∙◌, arith}
 use Rattle.std.specs.List.{All}
+use Rattle.std.proofs.lemmas.Bool.{eqb-true, false≢true}
 use Rattle.std.proofs.lemmas.List.{length-map}
+use Rattle.std.specs.Vec.{vec_len}
 use Rattle.ns_base.specs.Answers.{limit_of}
 use Rattle.ns_base.specs.declared.answers.Counted.TheVariants.{CertBytes}
 use Rattle.ns_base.specs.declared.answers.Exit.TheVariants as exits
@@ -16,6 +18,7 @@ use Rattle.cert_check.specs.declared.verdict.Checked.TheVariants.{Valid}
 use Rattle.cert_line.specs.Lines.{IsDigest}
 use Rattle.certificate.specs.Parts.{CertParts}
 use Rattle.certificate.specs.Texts.{IsCert, certificate_text}
+use Rattle.flow_model.specs.declared.policy.Violation.{Violation}
 use Rattle.flow_model.specs.Derived.{IsClosed, Set}
 use Rattle.flow_model.specs.Policy.{MeetsPolicy}
 use Rattle.flow_model.specs.Rules.{Rules}
@@ -68,6 +71,11 @@ pub some_files : (files : List (Vec ℕ Global)) (digests : List (List ℕ)) →
 some_files files digests same some =
     omega (arith, some, ap length same, length-map (map (λ (v : Vec ℕ Global). v.items) files) sha1, length-map files (λ (v : Vec ℕ Global). v.items))
 
-pub none_found : {X : Type 0} (found : List X) (b : Bool) → (b ≡ (length found == 0)) → b ≡ true → found ≡ []
-none_found [] b is e = refl
-none_found (x ∷ xs) b is e = absurd (let no : ⊥ = cc in no)
+pub none_found : (found : Vec Violation Global) (b : Bool) → (b ≡ (vec_len found == 0)) → b ≡ true → found.items ≡ []
+none_found found b is e = by found.items (omega (arith, found.ok, eqb-true _ _ (sym is ∙ e))) where
+  by : (xs : List Violation) → length xs ≡ 0 → xs ≡ []
+  by [] none = refl
+  by (x ∷ xs) none = absurd (omega (arith, none))
+
+pub some_found : (found : Vec Violation Global) (b : Bool) → (b ≡ (vec_len found == 0)) → b ≡ false → found.items ≡ [] → ⊥
+some_found found b is e none = false≢true (sym e ∙ is ∙ ap (λ (n : ℕ). n == 0) (sym found.ok ∙ ap length none))

@@ -1,5 +1,5 @@
 -- From the answer to why it comes.
-use Rattle.std.proofs.Common.{◌≡◌, ℕ, ◌≤◌, ◌<◌, Bool, true, false, List, [], ◌∷◌, length, Option, Some, None, Result, Ok, Err, ◌⊎◌, inl, inr, ⊎_elim, refl, ◌∙◌, ap, sym, subst, arith, slice_get, get_or}
+use Rattle.std.proofs.Common.{◌≡◌, ◌≢◌, IfOk, ℕ, ◌≤◌, ◌<◌, Bool, true, false, List, [], ◌∷◌, length, Option, Some, None, Result, Ok, Err, ◌⊎◌, inl, inr, ⊎_elim, refl, ◌∙◌, ap, sym, subst, arith, slice_get, get_or}
 use Rattle.std.proofs.lemmas.Bool.{false≢true}
 use Rattle.std.proofs.lemmas.Option.{slice_get-get_or, slice_get_within}
 use Rattle.ns_base.specs.Answers.{limit_of}
@@ -11,6 +11,8 @@ use Rattle.ns_base.specs.declared.answers.Exit.TheVariants as exits
 use Rattle.app_model.specs.Subject.{SubjectParts}
 use Rattle.cert_check.specs.declared.verdict.Checked.{Checked}
 use Rattle.cert_check.specs.declared.verdict.Checked.TheVariants.{Valid, ListDigest, DexDigest, Shape, Broken, Unmet}
+use Rattle.nosleep.specs.declared.refusing.Answer.{Answer}
+use Rattle.nosleep.specs.Outcome.{FormHasOutcome}
 use Rattle.nosleep.specs.Answer.{AreJudged, AreTold, BytesComeTo, AreTakenTo, IsAnswer, IsFailure, IsOutcome, Judges, usage, many_files, unread, too_long, read, starved}
 use Rattle.nosleep.specs.Judged.{IsChecked, IsJudgement, IsReceived, IsSafe, IsVerified, accepts, certified, exit_of, overlong}
 use Rattle.nosleep.specs.Refusals.{Exceeds, IsRefused, IsRefusedAs, InFile, InLink, InList, OutOfScope, Refusal, refusal_exit, refusal_limit, refusal_text}
@@ -62,12 +64,12 @@ verdict_exit (Unmet c k l s) = inr refl
 judgement_exit : (form : Form) (all : List (List ℕ)) (x : SubjectParts) (text : List ℕ) (exit : Exit) → IsJudgement form all x text exit → Judges form exit
 judgement_exit (Receiver dex class) all x text exit (IsReceived.reports has e) = inr e
 judgement_exit (Receiver dex class) all x text exit (accepts t is e) = inl e
-judgement_exit (Verify list dex) [] x text exit no = absurd no
+judgement_exit (Verify list dex) [] x text exit never = absurd never
 judgement_exit (Verify list dex) (bytes ∷ files) x text exit (IsVerified.reports has e) = inr (inl e)
 judgement_exit (Verify list dex) (bytes ∷ files) x text exit (certified is e) = inl e
 judgement_exit (Verify list dex) (bytes ∷ files) x text exit (overlong is e) = inr (inr e)
-judgement_exit (Check cert list dex) [] x text exit no = absurd no
-judgement_exit (Check cert list dex) (one ∷ []) x text exit no = absurd no
+judgement_exit (Check cert list dex) [] x text exit never = absurd never
+judgement_exit (Check cert list dex) (one ∷ []) x text exit never = absurd never
 judgement_exit (Check cert list dex) (one ∷ bytes ∷ files) x text exit (IsChecked.unread n wrong t e) = inr (inr e)
 judgement_exit (Check cert list dex) (one ∷ bytes ∷ files) x text exit (IsChecked.read c is t on) = ⊎_elim (λ e. inl (on.ends ∙ e)) (λ e. inr (inl (on.ends ∙ e))) (verdict_exit on.checked)
 
@@ -82,12 +84,12 @@ is_valid (Unmet c k l s) e = cc
 judgement_safe : (form : Form) (all : List (List ℕ)) (x : SubjectParts) (text : List ℕ) (exit : Exit) → exit ≡ exits.Accept → IsJudgement form all x text exit → IsSafe x
 judgement_safe (Receiver dex class) all x text exit here (IsReceived.reports has e) = absurd (let no : exits.Accept ≡ exits.Reports = sym here ∙ e in cc)
 judgement_safe (Receiver dex class) all x text exit here (accepts t is e) = is.1
-judgement_safe (Verify list dex) [] x text exit here no = absurd no
+judgement_safe (Verify list dex) [] x text exit here never = absurd never
 judgement_safe (Verify list dex) (bytes ∷ files) x text exit here (IsVerified.reports has e) = absurd (let no : exits.Accept ≡ exits.Reports = sym here ∙ e in cc)
 judgement_safe (Verify list dex) (bytes ∷ files) x text exit here (certified is e) = is.accepted.1
 judgement_safe (Verify list dex) (bytes ∷ files) x text exit here (overlong is e) = absurd (let no : exits.Accept ≡ exits.Limit = sym here ∙ e in cc)
-judgement_safe (Check cert list dex) [] x text exit here no = absurd no
-judgement_safe (Check cert list dex) (one ∷ []) x text exit here no = absurd no
+judgement_safe (Check cert list dex) [] x text exit here never = absurd never
+judgement_safe (Check cert list dex) (one ∷ []) x text exit here never = absurd never
 judgement_safe (Check cert list dex) (one ∷ bytes ∷ files) x text exit here (IsChecked.unread n wrong t e) = absurd (let no : exits.Accept ≡ exits.Bad = sym here ∙ e in cc)
 judgement_safe (Check cert list dex) (one ∷ bytes ∷ files) x text exit here (IsChecked.read c is t on) = on.safe (is_valid on.checked (sym on.ends ∙ here))
 
@@ -132,6 +134,10 @@ outcome_exit form all (Err refusal) text exit comes is = told_refused exit (refu
 
 pub untold : (other : Exit) → is_told other ≡ false → (form : Form) (all : List (List ℕ)) (r : Result SubjectParts Refusal) (text : List ℕ) (exit : Exit) → BytesComeTo form all r → IsOutcome form all r text exit → exit ≡ other → ⊥
 untold other none form all r text exit comes is e = false≢true (sym none ∙ ap is_told (sym e) ∙ outcome_exit form all r text exit comes is)
+
+pub all_judged : {E : Type 0} (form : Form) (all : List (List ℕ)) (r : Result Answer E) → IfOk r (λ a. FormHasOutcome form all a.text.items a.exit) → IfOk r (λ a. a.exit ≢ exits.Memory)
+all_judged form all (Ok a) o = λ e. untold exits.Memory refl form all o.0 a.text.items a.exit o.1 o.2 e
+all_judged form all (Err e) o = tt
 
 -- ---- from the answer to words and files to why it comes
 module _ (words : List (List ℕ)) (content : List ℕ → Option (List ℕ)) (before now : ℕ) where

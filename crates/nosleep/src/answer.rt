@@ -74,13 +74,16 @@ fn answer_files(alloc: Global, asked: Asked<'_>, files: &[Vec<u8>]) -> Result<An
 {
     match asked {
         Asked::Receiver { class, .. } => answer_receiver(alloc, class, files),
-        Asked::Verify { .. } => match files {
-            [list, dex @ ..] => answer_verify(alloc, list, dex),
-            _ => Err(AllocError),
+        Asked::Verify { .. } => match files.split_first() {
+            Some((list, dex)) => answer_verify(alloc, list, dex),
+            None => Err(AllocError),
         },
-        Asked::Check { .. } => match files {
-            [cert, list, dex @ ..] => answer_check(alloc, cert, list, dex),
-            _ => Err(AllocError),
+        Asked::Check { .. } => match files.split_first() {
+            Some((cert, files)) => match files.split_first() {
+                Some((list, dex)) => answer_check(alloc, cert, list, dex),
+                None => Err(AllocError),
+            },
+            None => Err(AllocError),
         },
     }
 }

@@ -5,6 +5,7 @@ use Rattle.ns_base.specs.declared.answers.Counted.TheVariants.{Files}
 use Rattle.nosleep.specs.Asked.{form_by}
 use Rattle.nosleep.specs.Words.{FileName, dex_names}
 use Rattle.nosleep.proofs.Answering.{all_read, formless, names_some, short_taken, stopped_failed, stopped_long, too_many}
+use Rattle.nosleep.proofs.Judgements.{all_judged}
 use Rattle.nosleep.proofs.answer.find_answer.Goals as goal
 
 pub returns-in_default-clause-answer : goal.returns-in_default-clause-answer
@@ -65,3 +66,6 @@ returns-clause-answer g c =
 
 pub answer_files-requires-clause-some : goal.answer_files-requires-clause-some
 answer_files-requires-clause-some g c = names_some (map string_bytes c.args.words.now) (form_by c.in-Some.asked) c.in-Some.ensures
+
+pub returns-clause-judged : goal.returns-clause-judged
+returns-clause-judged g c = all_judged (form_by c.in-Some.asked) _ c.answer_files.result c.answer_files.ensures

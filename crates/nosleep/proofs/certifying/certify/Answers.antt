@@ -7,14 +7,14 @@ use Rattle.flow_model.specs.declared.policy.Violation.{Violation}
 use Rattle.flow_model.specs.Policy.{AreViolations}
 use Rattle.sha1.specs.Sha1.{sha1}
 use Rattle.nosleep.proofs.Alike.{certificate_over, least_over, tagged_over, violations_over}
-use Rattle.nosleep.proofs.Certified.{all_digests, none_found, some_files, valid_over}
+use Rattle.nosleep.proofs.Certified.{all_digests, none_found, some_files, some_found, valid_over}
 use Rattle.nosleep.proofs.Told.{all_safe, report_answer, written_answer}
 use Rattle.nosleep.proofs.certifying.certify.Goals as goal
 
 pub returns-then-not-is_empty : goal.returns-then-not-is_empty
 returns-then-not-is_empty c =
     report_answer c.args.list.now (map (λ v. v.items) c.args.files.now) c.args.subject.now c.in-Ok.found.items c.report.result
-    (λ y alike. violations_over c.args.subject.now y alike c.in-Ok.found.items c.in-Ok.ensures.exact) (search rules) c.report.ensures
+    (λ y alike. violations_over c.args.subject.now y alike c.in-Ok.found.items c.in-Ok.ensures.exact) (some_found c.in-Ok.found _ c.is_empty.ensures c.if-not-is_empty.true) c.report.ensures
 
 pub returns : goal.returns
 returns c =
@@ -23,7 +23,7 @@ returns c =
     let cert : CertParts = record { list = c.digest.result; dex = c.in_ok-digests_of.field-0.items; locks = c.in_ok-solved.solved.parts.items } in
     let same = c.in_ok-digests_of.ensures in
     let solved = c.in_ok-solved.ensures.parts in
-    let empty = none_found c.in-Ok.found.items _ c.is_empty.ensures c.if-not-is_empty.false in
+    let empty = none_found c.in-Ok.found _ c.is_empty.ensures c.if-not-is_empty.false in
     let are : AreViolations x [] = subst (λ (vs : List Violation). AreViolations x vs) empty c.in-Ok.ensures.exact in
     let digests : All IsDigest cert.dex = subst (λ (ds : List (List ℕ)). All IsDigest ds) (sym same) (all_digests c.written_certificates.ensures.digest dex) in
     let one : IsDigest cert.list = subst IsDigest (sym c.digest.ensures) (c.written_certificates.ensures.digest c.args.list.now) in

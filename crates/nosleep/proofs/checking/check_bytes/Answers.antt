@@ -9,5 +9,4 @@ returns-in-Ok c =
     c.in-Ok.ensures.found.0 c.in-Ok.ensures.found.1 c.check_read.ensures
 
 pub returns-in_ok-bad_certificate-in-Err-Line : goal.returns-in_ok-bad_certificate-in-Err-Line
-returns-in_ok-bad_certificate-in-Err-Line c = λ y alike.
-    IsChecked.unread c.in-Err-Line.line c.in-Err-Line.ensures.line (ap (λ v. v.items) c.bad.ensures.1 ∙ c.in_ok-bad_certificate-in-Err-Line.ensures) c.bad.ensures.0
+returns-in_ok-bad_certificate-in-Err-Line c = ?
