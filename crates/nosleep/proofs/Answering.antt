@@ -52,6 +52,12 @@ short_taken content form files all same taken = by_form form all (omega (arith, 
     by_form (Check cert list dex) [] len each = absurd (omega (arith, len))
     by_form (Check cert list dex) (one ∷ rest) len each = small_files (list_file list ∷ map dex_file dex) rest (small_limits (Check cert list dex)) (omega (arith, len)) (λ k file bytes there at. each (suc k) file bytes there at)
 
+pub small_rest : (x : Vec ℕ Global) (rest all : List (Vec ℕ Global)) → all ≡ x ∷ rest → AreSmall all → AreSmall rest
+small_rest x rest all same small k d less = let whole = subst AreSmall same small in whole (suc k) d (omega (arith, less))
+
+pub small_beside : (cert list : List ℕ) (dex : List (List ℕ)) (x : Vec ℕ Global) (rest all : List (Vec ℕ Global)) → all ≡ x ∷ rest → AreSmall (judged_files (Check cert list dex) all) → AreSmall rest
+small_beside cert list dex x rest all same small = subst (λ (xs : List (Vec ℕ Global)). AreSmall (judged_files (Check cert list dex) xs)) same small
+
 -- a form names at least one DEX file
 abbrev NamesSome : Option Form → Type 0
 NamesSome o = (form : Form) → Some form ≡ o → 0 < length (dex_names form)

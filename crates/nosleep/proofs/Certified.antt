@@ -17,7 +17,10 @@ use Rattle.cert_check.specs.declared.verdict.Checked.{Checked}
 use Rattle.cert_check.specs.declared.verdict.Checked.TheVariants.{Valid}
 use Rattle.cert_line.specs.Lines.{IsDigest}
 use Rattle.certificate.specs.Parts.{CertParts}
+use Rattle.certificate.specs.declared.parts.CertFault.{CertFault}
+use Rattle.certificate.specs.declared.parts.CertFault.TheVariants as certs
 use Rattle.certificate.specs.Texts.{IsCert, certificate_text}
+use Rattle.certificate.specs.Wrong.{HasFirstWrong, OnLine}
 use Rattle.flow_model.specs.declared.policy.Violation.{Violation}
 use Rattle.flow_model.specs.Derived.{IsClosed, Set}
 use Rattle.flow_model.specs.Policy.{MeetsPolicy}
@@ -29,6 +32,7 @@ use Rattle.run_model.specs.Soundness.{LeavesNoneHeld, StandsWell}
 use Rattle.sha1.specs.Sha1.{sha1}
 use Rattle.nosleep.specs.declared.refusing.Answer.{Answer}
 use Rattle.nosleep.specs.Judged.{IsChecked, IsSafe, IsVerdictOn}
+use Rattle.nosleep.specs.Outcome.{IsNoCertificate}
 
 -- a written certificate that is short enough is valid for each subject that is alike
 module _ (x : SubjectParts) (cert : CertParts) (list : List ℕ) (dex : List (List ℕ)) (one : cert.list ≡ sha1 list) (all : cert.dex ≡ map sha1 dex)
@@ -58,6 +62,12 @@ pub read_answer : {E : Type 0} (x : SubjectParts) (bytes list : List ℕ) (dex :
 read_answer x bytes list dex cert (Ok a) is text on = λ y alike. IsChecked.read cert is text (on y alike)
 read_answer x bytes list dex cert (Err e) is text on = tt
 
+pub unread_answer : {E : Type 0} (x : SubjectParts) (bytes list : List ℕ) (dex : List (List ℕ)) (fault : CertFault) (r : Result Answer E) → OnLine (Err fault) (λ n. HasFirstWrong n bytes)
+    → IfOk r (λ a. IsNoCertificate fault a.text.items a.exit) → IfOk r (λ a. (y : SubjectParts) → AreAlike x y → IsChecked bytes list dex y a.text.items a.exit)
+unread_answer x bytes list dex (certs.Line n) (Ok a) wrong is = λ y alike. IsChecked.unread n wrong is.1 is.0
+unread_answer x bytes list dex certs.Memory (Ok a) wrong is = absurd is
+unread_answer x bytes list dex fault (Err e) wrong is = tt
+
 -- ---- what a certificate is made of
 all_made : {A B : Type 0} (P : B → Type 0) (f : A → B) → ((a : A) → P (f a)) → (xs : List A) → All P (map f xs)
 all_made P f each [] k d less = absurd (omega (arith, less))
@@ -78,4 +88,4 @@ none_found found b is e = by found.items (omega (arith, found.ok, eqb-true _ _ (
   by (x ∷ xs) none = absurd (omega (arith, none))
 
 pub some_found : (found : Vec Violation Global) (b : Bool) → (b ≡ (vec_len found == 0)) → b ≡ false → found.items ≡ [] → ⊥
-some_found found b is e none = false≢true (sym e ∙ is ∙ ap (λ (n : ℕ). n == 0) (sym found.ok ∙ ap length none))
+some_found found b is e none = false≢true (sym e ∙ is ∙ ap (λ (n : ℕ). n == 0) (found.ok.0 ∙ ap length none))

@@ -13,10 +13,11 @@ use Rattle.cert_check.specs.declared.verdict.Checked.{Checked}
 use Rattle.cert_check.specs.declared.verdict.Checked.TheVariants.{Valid, ListDigest, DexDigest, Shape, Broken, Unmet}
 use Rattle.nosleep.specs.declared.refusing.Answer.{Answer}
 use Rattle.nosleep.specs.Outcome.{FormHasOutcome}
-use Rattle.nosleep.specs.Answer.{AreJudged, AreTold, BytesComeTo, AreTakenTo, IsAnswer, IsFailure, IsOutcome, Judges, usage, many_files, unread, too_long, read, starved}
+use Rattle.nosleep.specs.Answer.{AreJudged, AreTold, BytesComeTo, AreTakenTo, IsAnswer, IsExact, IsFailure, IsOutcome, Judges, usage, many_files, unread, too_long, read, starved}
 use Rattle.nosleep.specs.Judged.{IsChecked, IsJudgement, IsReceived, IsSafe, IsVerified, accepts, certified, exit_of, overlong}
 use Rattle.nosleep.specs.Refusals.{Exceeds, IsRefused, IsRefusedAs, InFile, InLink, InList, OutOfScope, Refusal, refusal_exit, refusal_limit, refusal_text}
 use Rattle.nosleep.specs.Reading.{WhereTold}
+use Rattle.nosleep.specs.Writing.{WroteAll}
 use Rattle.nosleep.specs.Words.{FileName, Form, Receiver, Verify, Check, dex_names, files_of, form_of}
 use Rattle.nosleep.proofs.Same.{outcome_of_judged}
 use Rattle.nosleep.proofs.Taking.{told_taken}
@@ -218,3 +219,9 @@ module _ (words : List (List ℕ)) (content : List ℕ → Option (List ℕ)) (b
       by (inl (inl e)) = absurd (quiet (read_cause words content before now text exit answer e))
       by (inl (inr (inl e))) = absurd (not_write words content before now text exit answer e)
       by (inl (inr (inr e))) = inr e
+
+-- what was written of a judgement
+pub wrote_exact : (form : Form) (all : List (List ℕ)) (x : SubjectParts) (text : List ℕ) (exit : Exit) (before now : Option (List ℕ)) → WroteAll before now text → IsFailure exit ⊎ IsJudgement form all x text exit
+    → IsFailure exit ⊎ IsExact form all x exit before now
+wrote_exact form all x text exit before now wrote (inl failed) = inl failed
+wrote_exact form all x text exit before now wrote (inr judgement) = inr (text, judgement, wrote)

@@ -125,4 +125,3 @@ module _ (listed : Result (List ListedParts) ListFault) (files : List (List ℕ)
   outcome_of_judged P _ r x text exit same (many_targets rows app list e at b many) c o = absurd (not_both x _ _ same refl)
   outcome_of_judged P _ r x text exit same (many_cells rows app graph list n e at b few is_graph cells many) c o = absurd (not_both x _ _ same refl)
   outcome_of_judged P _ r x text exit same (out_of_scope rows other fault e at b fits table cause) c o = absurd (not_both x _ _ same refl)
-

@@ -58,7 +58,6 @@ all_safe x violations are least stands leaves empty l below choices =
     let meets : MeetsPolicy x l set = λ c k s v. (let found = (nothing.exact (record { component = c; callback = k; lock = l; status = s })).1 (derived_violation x l set c k s is v) in omega (arith, found.1)) in
     (stands l set below closed meets choices, leaves l set below closed meets choices)
 
-
 -- ---- verify
 pub report_answer : {E : Type 0} (list : List ℕ) (dex : List (List ℕ)) (x : SubjectParts) (violations : List Violation) (r : Result Answer E) → ((y : SubjectParts) → AreAlike x y → AreViolations y violations) → violations ≢ []
     → IfOk r (λ a. IsReport x.app x.list violations a.text.items a.exit) → IfOk r (λ a. (y : SubjectParts) → AreAlike x y → IsVerified list dex y a.text.items a.exit)

@@ -14,6 +14,9 @@ use Rattle.report_text.specs.Heads.{heads_text}
 use Rattle.report_text.specs.Texts.{accept_text}
 use Rattle.nosleep.specs.Answer.{BytesComeTo, IsOutcome}
 use Rattle.nosleep.specs.Files.{AreContents, ComesTo, FailsAt}
+use Rattle.certificate.specs.declared.parts.CertFault.{CertFault}
+use Rattle.certificate.specs.declared.parts.CertFault.TheVariants as certs
+use Rattle.report_text.specs.Verdicts.{bad_certificate_text}
 use Rattle.call_targets.specs.declared.fault.TargetFault.{TargetFault}
 use Rattle.call_targets.specs.declared.fault.TargetFault.TheVariants as targets
 use Rattle.tag_flow.specs.declared.fault.TagFault.{TagFault}
@@ -55,6 +58,10 @@ counted_tag tags.Memory = None
 abbrev pub IsTooMany : Option Counted → List ℕ → Exit → Type 0
 IsTooMany None text exit = ⊥
 IsTooMany (Some which) text exit = IsOver which text exit
+
+abbrev pub IsNoCertificate : CertFault → List ℕ → Exit → Type 0
+IsNoCertificate (certs.Line n) text exit = (exit ≡ exits.Bad) × (text ≡ bad_certificate_text n)
+IsNoCertificate certs.Memory text exit = ⊥
 
 -- the answer to the violations of an application: their heads, where there are some
 abbrev pub IsReport : AppParts → List ComponentParts → List Violation → List ℕ → Exit → Type 0

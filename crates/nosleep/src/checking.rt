@@ -6,13 +6,13 @@ ghost use Rattle.sha1.specs.Sha1.{sha1};
 ghost use Rattle.nosleep.specs.Judged as spec;
 ghost use Rattle.nosleep.specs.Judged.{IsChecked, IsVerdictOn};
 
-use crate::refusing::{Answer, bad};
+use crate::refusing::{Answer, refuse_certificate};
 use app_model::Subject;
 use cert_check::{Checked, check};
 use cert_laws::alike_verdicts;
-use certificate::{CertFault, Certificate, read_certificate};
+use certificate::{Certificate, read_certificate};
 use ns_base::{Exit, OutOfMemory};
-use report_text::{bad_certificate, checked_text};
+use report_text::checked_text;
 use run_model::tagged_soundness;
 use sha1::Sha1;
 use std::alloc::{AllocError, Global};
@@ -41,8 +41,7 @@ pub fn check_bytes(
 {
     match read_certificate(alloc, cert) {
         Ok(cert) => check_read(alloc, subject, &cert, list, files),
-        Err(CertFault::Line(line)) => Ok(bad(bad_certificate(alloc, line)?)),
-        Err(CertFault::Memory) => Err(AllocError),
+        Err(fault) => refuse_certificate(alloc, fault),
     }
 }
 

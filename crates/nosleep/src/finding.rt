@@ -52,11 +52,7 @@ pub fn find_by_list(alloc: Global, list: &[u8], files: &[Vec<u8>]) -> Result<Fou
 }
 
 /// What DEX files come to under a list.
-pub fn find_listed(
-    alloc: Global,
-    listed: &Listed,
-    files: &[Vec<u8>],
-) -> Result<Found, AllocError>
+pub fn find_listed(alloc: Global, listed: &Listed, files: &[Vec<u8>]) -> Result<Found, AllocError>
     requires list { IsReadList listed.now }
     requires few { length files.now ≤ 16 }
     requires short { AreSmall files.now }

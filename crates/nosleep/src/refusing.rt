@@ -4,16 +4,17 @@ ghost use Rattle.ns_base.specs.declared.answers.Exit.TheVariants as exits;
 ghost use Rattle.dex_file.specs.Content.{FileContent};
 ghost use Rattle.nosleep.specs.Files.{AreContents, AreSmall, class_in, named_by};
 ghost use Rattle.nosleep.specs.Refusals.{IsOver, IsRefused, InFile, InLink, InList, OutOfScope};
-ghost use Rattle.nosleep.specs.Outcome.{IsTooMany, counted_tag, counted_target};
+ghost use Rattle.nosleep.specs.Outcome.{IsNoCertificate, IsTooMany, counted_tag, counted_target};
 
 use app_link::LinkFault;
 use call_targets::TargetFault;
+use certificate::CertFault;
 use component_list::ListFault;
 use dalvik_decode::CodeFault;
 use dex_bytes::DexFault;
 use dex_file::{FileFault, class_name};
 use ns_base::{Counted, Exit};
-use report_text::{bad_code, bad_dex, bad_link, bad_list, over_limit, refused};
+use report_text::{bad_certificate, bad_code, bad_dex, bad_link, bad_list, over_limit, refused};
 use scope_check::ScopeFault;
 use std::alloc::{AllocError, Global};
 use tag_flow::TagFault;
@@ -83,8 +84,7 @@ fn name_in(alloc: Global, files: &[Vec<u8>], file: u32, row: u32) -> Result<Vec<
     }
 }
 
-/// The answer to what is read and is not as it should be.
-pub fn bad(text: Vec<u8>) -> Answer
+fn bad(text: Vec<u8>) -> Answer
     ensures { (result.exit ≡ exits.Bad) × (result.text ≡ text) }
 {
     Answer {
@@ -133,5 +133,15 @@ pub fn refuse_scope(alloc: Global, fault: &ScopeFault) -> Result<Answer, AllocEr
             exit: Exit::Scope,
             text: refused(alloc, fault)?,
         }),
+    }
+}
+
+/// The answer to bytes that are no certificate.
+pub fn refuse_certificate(alloc: Global, fault: CertFault) -> Result<Answer, AllocError>
+    ensures { IfOk result (λ a. IsNoCertificate fault a.text.items a.exit) }
+{
+    match fault {
+        CertFault::Line(line) => Ok(bad(bad_certificate(alloc, line)?)),
+        CertFault::Memory => Err(AllocError),
     }
 }

@@ -140,7 +140,14 @@ fn certifies(alloc: Global, list: &str, file: &[u8], fail: &[u64]) -> Result<boo
     let cert = certificate(alloc, list.as_bytes(), file, ROWS)?;
     let shelf = shelf_with(alloc, list, file, fail)?;
     let sink = MemorySink::new(alloc, 1000, 1000, Vec::new(alloc))?;
-    writes(alloc, &["verify", "l", "a"], shelf, sink, Exit::Accept, &cert)
+    writes(
+        alloc,
+        &["verify", "l", "a"],
+        shelf,
+        sink,
+        Exit::Accept,
+        &cert,
+    )
 }
 
 // Whether `check` answers so to these rows over a file.

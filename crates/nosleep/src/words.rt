@@ -7,9 +7,15 @@ ghost use Rattle.nosleep.specs.Asked.{form_by};
 #[derive(Clone, Copy)]
 pub enum Asked<'a> {
     /// A DEX file, and the class of its one receiver, as a descriptor.
-    Receiver { dex: &'a str, class: &'a str },
+    Receiver {
+        dex: &'a str,
+        class: &'a str,
+    },
     /// A component list, and at least one DEX file.
-    Verify { list: &'a str, files: &'a [String] },
+    Verify {
+        list: &'a str,
+        files: &'a [String],
+    },
     /// A certificate, and the same.
     Check {
         cert: &'a str,

@@ -14,7 +14,7 @@ use Rattle.nosleep.proofs.certifying.certify.Goals as goal
 pub returns-then-not-is_empty : goal.returns-then-not-is_empty
 returns-then-not-is_empty c =
     report_answer c.args.list.now (map (λ v. v.items) c.args.files.now) c.args.subject.now c.in-Ok.found.items c.report.result
-    (λ y alike. violations_over c.args.subject.now y alike c.in-Ok.found.items c.in-Ok.ensures.exact) (some_found c.in-Ok.found _ c.is_empty.ensures c.if-not-is_empty.true) c.report.ensures
+    (λ y alike. violations_over c.args.subject.now y alike c.in-Ok.found.items c.in-Ok.ensures.exact) (some_found c.in-Ok.found _ c.is_empty.ensures c.if-not-is_empty.true) (rw c.deref-then-not-is_empty.ensures.value at c.report.ensures)
 
 pub returns : goal.returns
 returns c =
@@ -31,8 +31,9 @@ returns c =
     written_answer c.args.list.now dex x cert c.write.result (c.written_certificates.ensures.text x cert c.told.ensures solved one digests some)
     (λ y alike.
     let tagged = tagged_over x y c.told.ensures alike in
-    let over = violations_over x y alike [] are in
-    (certificate_over x y alike (sha1 c.args.list.now) (map sha1 dex) cert c.digest.ensures same solved,
-    (over, all_safe y [] over (least_over x y alike c.in-Ok.ensures.least) (λ l set. c.tagged_soundness.ensures.runs y l set tagged) (λ l set. c.tagged_soundness.ensures.counts y l set tagged) refl),
-    valid_over x cert c.args.list.now dex c.digest.ensures same (c.written_certificates.ensures.accepted x cert c.told.ensures are solved) c.alike_verdicts.ensures.accepted c.accepted_certificates.ensures.valid y alike))
+    let over = violations_over x y alike [] are in (
+      certificate_over x y alike (sha1 c.args.list.now) (map sha1 dex) cert c.digest.ensures same solved,
+      (over, all_safe y [] over (least_over x y alike c.in-Ok.ensures.least) (λ l set. c.tagged_soundness.ensures.runs y l set tagged) (λ l set. c.tagged_soundness.ensures.counts y l set tagged) refl),
+      valid_over x cert c.args.list.now dex c.digest.ensures same (c.written_certificates.ensures.accepted x cert c.told.ensures are solved) (c.alike_verdicts.ensures.accepted x) c.accepted_certificates.ensures.valid y alike,
+    ))
     c.write.ensures

@@ -1,7 +1,7 @@
-use Rattle.std.proofs.Common.{[], map, string_bytes, refl, inl, inr, ⊎_elim}
+use Rattle.std.proofs.Common.{[], map, string_bytes, refl, inl, inr}
 use Rattle.ns_base.specs.declared.answers.Exit.TheVariants as exits
 use Rattle.nosleep.specs.Answer.{starved}
-use Rattle.nosleep.proofs.Judgements.{accepted, exact_of, judged_exit, not_write, read_cause}
+use Rattle.nosleep.proofs.Judgements.{accepted, exact_of, judged_exit, not_write, read_cause, wrote_exact}
 use Rattle.nosleep.proofs.Pieces.{WroteAll-none}
 use Rattle.nosleep.proofs.top.nosleep.Goals as goal
 
@@ -40,7 +40,7 @@ returns-in-Err-clause-exact g c = λ form all x is told judges. inl (inr (inr re
 pub returns-in-Ok-write_all-clause-exact : goal.returns-in-Ok-write_all-clause-exact
 returns-in-Ok-write_all-clause-exact g c = λ form all x is told judges.
     let wrote = rw c.deref.ensures.value at c.in-Ok-write_all.ensures.ok in
-    ⊎_elim (λ f. inl f) (λ j. inr (c.in-Ok.answer.text.items, j, wrote))
+    wrote_exact form all x c.in-Ok.answer.text.items c.in-Ok.answer.exit _ _ wrote
     (exact_of (map string_bytes c.args.words.now) (g.F.Shelf.content c.args.shelf.now) (g.F.Shelf.faults c.args.shelf.now) (g.F.Shelf.faults c.find_answer.new.shelf) form all is told x judges c.in-Ok.answer.text.items c.in-Ok.answer.exit c.in-Ok.ensures.answer)
 
 pub returns-clause-exact : goal.returns-clause-exact
