@@ -1,5 +1,5 @@
 -- From the violations of a subject to the answers.
-use Rattle.std.proofs.Common.{◌≡◌, ◌≢◌, ℕ, ◌≤◌, ◌<◌, List, [], length, map, Result, Ok, Err, IfOk, refl, sym, subst, arith}
+use Rattle.std.proofs.Common.{◌≡◌, ◌≢◌, ℕ, ◌≤◌, ◌<◌, List, [], length, map, Result, Ok, Err, IfOk, refl, subst, arith}
 use Rattle.ns_base.specs.Answers.{limit_of}
 use Rattle.ns_base.specs.declared.answers.Counted.TheVariants.{CertBytes}
 use Rattle.ns_base.specs.declared.answers.Exit.{Exit}

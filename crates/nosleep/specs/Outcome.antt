@@ -22,7 +22,7 @@ use Rattle.call_targets.specs.declared.fault.TargetFault.TheVariants as targets
 use Rattle.tag_flow.specs.declared.fault.TagFault.{TagFault}
 use Rattle.tag_flow.specs.declared.fault.TagFault.TheVariants as tags
 use Rattle.nosleep.specs.Refusals.{IsOver, IsRefused, Refusal}
-use Rattle.nosleep.specs.Words.{Form, Receiver, Verify, Check}
+use Rattle.nosleep.specs.Words.{Form, Check}
 use Rattle.nosleep.specs.declared.contents.Contents.{Contents}
 use Rattle.nosleep.specs.declared.contents.Contents.TheVariants.{Read, Bad}
 use Rattle.nosleep.specs.declared.finding.Found.{Found}

@@ -10,7 +10,6 @@ use std::alloc::Global;
 use std::test::Fail;
 
 mod calls;
-mod certificates;
 mod hierarchy;
 mod rows;
 mod samples;

@@ -1,4 +1,4 @@
-use Rattle.std.proofs.Common.{◌∷◌, map, Ok, Err}
+use Rattle.std.proofs.Common.{◌∷◌, map, Err}
 use Rattle.nosleep.specs.Words.{Check}
 use Rattle.nosleep.proofs.Outcomes.{judged_form}
 use Rattle.nosleep.proofs.answer.answer_check.Goals as goal

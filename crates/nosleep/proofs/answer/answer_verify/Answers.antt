@@ -1,4 +1,4 @@
-use Rattle.std.proofs.Common.{◌∷◌, map, Ok, Err}
+use Rattle.std.proofs.Common.{◌∷◌, map, Err}
 use Rattle.nosleep.specs.Words.{Verify}
 use Rattle.nosleep.proofs.Outcomes.{judged_form}
 use Rattle.nosleep.proofs.answer.answer_verify.Goals as goal

@@ -1,6 +1,5 @@
-use Rattle.std.proofs.Common.{ℕ, ◌<◌, List, [], length, map, refl, sym, ap, subst, ◌∙◌, arith}
+use Rattle.std.proofs.Common.{ℕ, ◌<◌, List, [], length, map, refl, sym, subst}
 use Rattle.std.specs.List.{All}
-use Rattle.std.proofs.lemmas.List.{length-map}
 use Rattle.cert_line.specs.Lines.{IsDigest}
 use Rattle.certificate.specs.Parts.{CertParts}
 use Rattle.flow_model.specs.declared.policy.Violation.{Violation}

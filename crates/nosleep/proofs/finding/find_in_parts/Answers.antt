@@ -1,4 +1,4 @@
-use Rattle.std.proofs.Common.{rules, refl, map, Ok, Err}
+use Rattle.std.proofs.Common.{rules, refl, map, Err}
 use Rattle.app_link.specs.Linking.{IsLinked}
 use Rattle.nosleep.specs.Files.{bad_link, named_by}
 use Rattle.nosleep.specs.Refusals.{InLink}
