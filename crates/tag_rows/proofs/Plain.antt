@@ -8,8 +8,9 @@ use Rattle.std.proofs.lemmas.Grind.{common_steps}
 use Rattle.std.proofs.lemmas.Bool.Decides.{nat_tests}
 use Rattle.app_model.specs.TagTable.{cell_count, cell_of, tag_of}
 use Rattle.app_model.specs.declared.tag.Tag.{Tag}
-use Rattle.app_model.specs.declared.tag.Tag.TheVariants.{Any, Bot, Mixed}
+use Rattle.app_model.specs.declared.tag.Tag.TheVariants.{Any, Bot, Mixed, Zero}
 use Rattle.app_model.proofs.Cells.{cell_again}
+use Rattle.act_model.specs.Changes.{tag_in}
 use Rattle.act_model.specs.Tags.{itself, at_most_any, bot_all, IsJoin}
 use Rattle.tag_rows.specs.Changes.{is_plain}
 
@@ -63,6 +64,13 @@ join_bot t = record { left = bot_all; right = itself; least = λ top low high. h
 pub bot_cell : tag_of 0 ≡ Bot
 unfolding tag_of
 bot_cell = refl
+
+zero_tag : tag_of 1 ≡ Zero
+unfolding tag_of
+zero_tag = refl
+
+pub zero_at : (cells : List ℕ) (r : ℕ) → r < length cells → get_or cells r 0 ≡ 1 → tag_in (map tag_of cells) r ≡ Zero
+zero_at cells r lt is = get_or-map tag_of cells r 0 Bot lt ∙ ap tag_of is ∙ zero_tag
 
 -- cells that differ have tags that differ
 pub tags_differ : (a b : ℕ) → a < cell_count → b < cell_count → a ≢ b → tag_of a ≢ tag_of b
