@@ -1,17 +1,14 @@
 -- What holds at an instruction of a method that is reached.
-use Rattle.std.proofs.Common.{◌≡◌, ℕ, ◌+◌, ◌*◌, ◌<◌, ◌≤◌, Bool, List, length, get_or, if◌then◌else◌, Some, sym, ap, ◌∙◌, ⊎_elim, arith}
+use Rattle.std.proofs.Common.{◌≡◌, ℕ, ◌+◌, ◌*◌, ◌<◌, ◌≤◌, Bool, List, length, get_or, if◌then◌else◌, Some, sym, ap, ◌∙◌, arith}
 use Rattle.std.specs.Prelude.{slice_get}
-use Rattle.std.proofs.lemmas.Bool.{cases_lt}
 use Rattle.std.proofs.lemmas.List.{get_or-map}
 use Rattle.std.proofs.lemmas.Nat.{row_fits}
 use Rattle.std.proofs.lemmas.Option.{get_or_from_slice_get, slice_get_within}
 use Rattle.app_model.specs.TagTable.{width_at}
 use Rattle.app_model.specs.Words.{code_len}
 use Rattle.app_model.specs.declared.rows.MethodRow.{MethodRow}
-use Rattle.app_model.specs.declared.tag.Tag.TheVariants.{Bot}
-use Rattle.app_model.proofs.Cells.{length-row_at, tag_past, tag_within}
+use Rattle.app_model.proofs.Cells.{length-row_at, tag_within}
 use Rattle.act_model.specs.Changes.{tag_in}
-use Rattle.flow_model.specs.TagFlow.{IsLive}
 use Rattle.tag_flow.specs.declared.known.Spot.{Spot}
 use Rattle.tag_rows.specs.Cells.{cells_len, tag_there}
 use Rattle.tag_flow.specs.Known.{IsKnown, KnownParts, row_width}

@@ -1,11 +1,13 @@
 //! What flows into callees, past calls, and back.
-ghost use Rattle.std.specs.Prelude.{ℕ, ◌≡◌, ◌<◌, Some, Contains, length, slice_get, true};
+ghost use Rattle.std.specs.Prelude.{ℕ, ◌≡◌, ◌<◌, List, Some, Contains, length, slice_get, true};
 ghost use Rattle.app_model.specs.CallGraph.{callees_at};
 ghost use Rattle.app_model.specs.Words.{code_len, successor_at};
+ghost use Rattle.app_model.specs.TagTable.{tag_at};
 ghost use Rattle.act_model.specs.Acts.{act_at};
 ghost use Rattle.act_model.specs.Changes.{tag_in};
+ghost use Rattle.act_model.specs.Tags.{Under};
 ghost use Rattle.flow_model.specs.TagFlow as flow;
-ghost use Rattle.tag_flow.specs.State.{IsSource, IsSpot, row_of};
+ghost use Rattle.tag_flow.specs.State.{IsSource, IsSpot, IsState, row_of};
 ghost use Rattle.tag_flow.specs.Turns.{Enters, IsUnion, Turn, handing_of, returned_of};
 ghost use Rattle.tag_flow.specs.Goals.{AnswerAt, Below, CallPassed, CalleeDone, CalleeNoDone, CameBack, Called, CellUnder, Entered, GaveBack, RowPassed, entering_row};
 
@@ -61,13 +63,30 @@ fn enter_cell(
     state.join(known, to, register, tag)
 }
 
+// How many first registers of a callee need no look: those that are no arguments, where all of them are Zero already.
+fn first_open(known: &Known, state: &State, to: Spot) -> usize
+    requires state { IsState known.now state.now }
+    requires spot { IsSpot known.now to }
+    requires first { to.index ≡ 0 }
+    ensures { (words : List Tag) (r : ℕ) → r < result → Under (tag_in (flow.callee_row (slice_get known.now.app.methods to.method.0) words) r) (tag_at state.now.table to.method.0 0 r) }
+{
+    known.told();
+    let method = known.method(to.method);
+    let first = method.registers as usize - method.ins as usize;
+    if state.row(known, to).starts_zero(first) {
+        return first;
+    }
+    0
+}
+
 fn enter_cells(known: &Known, state: &mut State, from: Spot, handing: Handing, to: Spot) -> bool
     requires source { IsSource known.now state.old from }
     requires enters { Enters known.now from handing to }
     ensures { Turn known.now (RowPassed known.now to.method.0 0 (entering_row known.now from.method.0 from.index to.method.0 handing.by handing.args)) state.old state.new result }
 {
     let mut changed = false;
-    for register in 0..to.width {
+    let first = first_open(known, state, to);
+    for register in first..to.width {
         changed |= enter_cell(known, state, from, handing, to, register);
     }
     changed

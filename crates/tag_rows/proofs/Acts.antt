@@ -1,9 +1,8 @@
 -- Which lock fields and sites acts of an application name.
-use Rattle.std.proofs.Common.{◌≡◌, ℕ, ◌<◌, ◌==◌, Bool, true, false, if◌then◌else◌, List, [], ◌∷◌, length, Option, Some, None, refl, sym, ap, ◌∙◌, bytes_eq, subst, ⊎_elim, arith}
+use Rattle.std.proofs.Common.{◌≡◌, ℕ, ◌<◌, ◌==◌, true, false, if◌then◌else◌, List, length, Option, Some, None, refl, sym, ap, ◌∙◌, subst, ⊎_elim, arith}
 use Rattle.std.specs.Prelude.{slice_get, slice_set}
 use Rattle.std.proofs.lemmas.Bool.{cases_lt}
 use Rattle.std.proofs.lemmas.List.{get_or_past}
-use Rattle.std.proofs.lemmas.List.Quantifiers.{position-Some}
 use Rattle.std.proofs.lemmas.Option.{slice_get_cases, slice_get_within}
 use Rattle.dalvik.specs.Body.{BodyRows}
 use Rattle.dalvik.specs.declared.body.Place.{Place}
@@ -12,14 +11,11 @@ use Rattle.dalvik.specs.declared.ins.Ins.TheVariants as ins
 use Rattle.dalvik.specs.declared.opcode.TheConstants.{IF_EQZ, IF_NEZ, MONITOR_ENTER, MOVE_RESULT_WIDE}
 use Rattle.app_model.specs.declared.lock_use.LockUse.{LockUse}
 use Rattle.app_model.specs.declared.lock_use.LockUse.TheVariants.{Plain, Make, Acquire, Release, IsHeld, Mode, Wrong}
-use Rattle.app_model.specs.declared.rows.NamedField.{NamedField}
-use Rattle.app_model.specs.Hierarchy.{line_of, lock_in, lock_of, nearest, or_else}
 use Rattle.app_model.specs.LockUse.{lock_use_at}
-use Rattle.app_model.specs.Names.{type_text, wake_lock_name}
 use Rattle.app_model.specs.Parts.{AppParts}
 use Rattle.app_model.specs.Sites.{is_make}
-use Rattle.app_model.specs.Slots.{is_object_access, lock_named, slot_at}
-use Rattle.app_model.specs.Words.{IsApp, code_len, field_named_at, ins_at, ins_of, no_body, place_at, places_of}
+use Rattle.app_model.specs.Slots.{slot_at}
+use Rattle.app_model.specs.Words.{IsApp, code_len, ins_at, ins_of, no_body, place_at, places_of}
 use Rattle.act_model.specs.declared.act.Act.{Act}
 use Rattle.act_model.specs.declared.act.Act.TheVariants.{Go, Check, ReadSlot, TakeResult, Test, Write, WriteSlot, Call}
 use Rattle.app_model.specs.declared.tag.Tag.{Tag}

@@ -17,6 +17,7 @@ use Rattle.tag_rows.specs.declared.runs.Pair.{Pair}
 use Rattle.tag_rows.specs.Cells.{Joins, tag_there}
 use Rattle.tag_rows.specs.Runs.{AreCells, AreJoined, JoinsIn, stays, rises, RunIn, no_cell, next_cell, Runs, no_step, next_step, tag_of_place}
 use Rattle.tag_rows.proofs.Cells.{none_joins, put_joins}
+use Rattle.act_model.specs.Tags.{IsJoin}
 use Rattle.tag_rows.proofs.Plain.{bot_cell, join_bot, join_same, tags_differ}
 
 pub cell_in : (cells : List ℕ) (place : ℕ) → AreCells cells → get_or cells place 0 < cell_count
@@ -31,6 +32,13 @@ takes cells place cell none fits differ =
     let other : tag_of cell ≢ tag_of (get_or cells place 0) = tags_differ cell (get_or cells place 0) fits (rw none (omega arith)) differ in
     subst (λ n. JoinsIn cells place (tag_of cell) (set cells place n) true) (cell_again cell fits)
     (rises (tag_of cell) (has_cell cell fits) (rw bot (join_bot (tag_of cell))) other)
+
+-- a cell takes another one that is above it
+pub raises : (cells : List ℕ) (place cell joined : ℕ) → joined < cell_count → get_or cells place 0 < cell_count
+    → IsJoin (tag_of (get_or cells place 0)) (tag_of cell) (tag_of joined) → joined ≢ get_or cells place 0 → JoinsIn cells place (tag_of cell) (set cells place joined) true
+raises cells place cell joined fits low join differ =
+    subst (λ n. JoinsIn cells place (tag_of cell) (set cells place n) true) (cell_again joined fits)
+    (rises (tag_of joined) (has_cell joined fits) join (tags_differ joined (get_or cells place 0) fits low differ))
 
 -- where nothing was to do, a run changes nothing
 pub joined_run : (pair : Pair) (start n end : ℕ) (cells : List ℕ) → start + n ≡ end → AreJoined pair start end cells → RunIn pair start cells end cells false

@@ -37,12 +37,16 @@ module _ (registers ins : ℕ) (words : List Tag) (le : ins ≤ registers) where
   inner_len : length inner ≡ registers
   inner_len = length-append low (fitted Zero ins words) ∙ (let a = low_len in let b = fitted_len ins words in omega (arith, a, b, le))
 
+  -- a register before those of the arguments
+  pub first_zero : (r : ℕ) → r < registers - ins → tag_in (entry_row Zero registers ins words) r ≡ Zero
+  first_zero r first =
+      get_or_append_left inner (Zero ∷ []) Bot r (let e = inner_len in omega (arith, e, first))
+      ∙ get_or_append_left low (fitted Zero ins words) Bot r (let e = low_len in omega (arith, e, first))
+      ∙ get_or-replicate (registers - ins) r Zero Bot first
+
   pub entry_tag : (r : ℕ) → r ≤ registers → tag_in (entry_row Zero registers ins words) r ≡ word_tag words (word_no registers ins r)
   entry_tag r within = ⊎_elim
-      (λ (first : r < registers - ins). rw (lt-ltb r (registers - ins) first)
-      (get_or_append_left inner (Zero ∷ []) Bot r (let e = inner_len in omega (arith, e, first))
-      ∙ get_or_append_left low (fitted Zero ins words) Bot r (let e = low_len in omega (arith, e, first))
-      ∙ get_or-replicate (registers - ins) r Zero Bot first))
+      (λ (first : r < registers - ins). rw (lt-ltb r (registers - ins) first) (first_zero r first))
       (λ (later : registers - ins ≤ r). rw (le-ltb r (registers - ins) later) (⊎_elim {A = r < registers} {B = registers ≤ r}
       (λ lt. rw (lt-ltb r registers lt)
       (get_or_append_left inner (Zero ∷ []) Bot r (let e = inner_len in omega (arith, e, lt))

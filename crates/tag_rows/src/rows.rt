@@ -1,6 +1,7 @@
 //! The cells of methods while a table is made, row by row.
 ghost use Rattle.std.specs.Prelude.{ℕ, ◌≡◌, ◌<◌, ◌+◌, ◌*◌, ◌≤◌, ◌^◌, ◌↔◌, [], IsTrue, length, map, slice_index_or, true};
 ghost use Rattle.flow_model.specs.TagFlow.{IsLive};
+ghost use Rattle.act_model.specs.Changes.{tag_in};
 ghost use Rattle.app_model.specs.TagTable.{HasCell, IsTagTable, cell_at, cell_count, row_at, tag_of, width_at, with_cell};
 ghost use Rattle.tag_rows.specs.Cells.{Joins, cells_len, tag_there};
 ghost use Rattle.tag_rows.specs.Runs.{Runs};
@@ -10,6 +11,9 @@ use act_model::Row;
 use app_model::{Tag, TagTable};
 use ns_base::MethodNo;
 use std::marker::Model;
+
+// The cell of Zero.
+const ZERO: u16 = 1;
 
 /// The cells of each method, as a table of tags has them.
 #[derive(Drop)]
@@ -144,6 +148,19 @@ impl Row for RowAt<'_> {
 }
 
 impl RowAt<'_> {
+    /// Whether so many first registers are all Zero.
+    pub fn starts_zero(&self, count: usize) -> bool
+        requires { count ≤ length self.now.cells.now }
+        ensures { result ≡ true → (r : ℕ) → r < count → tag_in (map tag_of self.now.cells.now) r ≡ Tag.Zero }
+    {
+        let cells = self.cells;
+        let mut zero = true;
+        for register in 0..count {
+            zero &= cells[register] == ZERO;
+        }
+        zero
+    }
+
     /// Whether something flows from there.
     pub fn is_live(&self) -> bool
         ensures { IsTrue result ↔ IsLive (map tag_of self.now.cells.now) }

@@ -1,15 +1,21 @@
 //! Cells of one row of a method that are joined into those of another one.
-ghost use Rattle.std.specs.Prelude.{ℕ, ◌≡◌, ◌<◌, ◌≤◌, ◌+◌, length, slice_index, true};
+ghost use Rattle.std.specs.Prelude.{ℕ, ◌≡◌, ◌≢◌, ◌<◌, ◌≤◌, ◌+◌, length, slice_index, true};
 ghost use Rattle.app_model.specs.TagTable.{cell_count, tag_of};
+ghost use Rattle.app_model.specs.declared.tag.Tag.{Tag};
+ghost use Rattle.act_model.specs.Tags.{IsJoin, at_most_any};
 ghost use Rattle.tag_rows.specs.Changes.{is_plain};
 ghost use Rattle.tag_rows.specs.Runs.{AreCells, AreJoined, IsClear, JoinsIn, RunIn};
 
 use crate::change::Kept;
-use act_model::join;
-use app_model::Tag;
 
-// No cell of a tag that names a lock field or a site is below this one.
+// The cells of Any and Mixed, and the first ones of the tags that name a lock field or a site.
+const ANY: u16 = 3;
+
+const MIXED: u16 = 4;
+
 const NAMED: u16 = 5;
+
+const FIELD: u16 = 69;
 
 /// Two rows of one method, by the places of their first cells, and what flows from the first to the second as it is.
 #[derive(Clone, Copy)]
@@ -42,22 +48,55 @@ fn is_kept(kept: Kept, cell: u16) -> bool
     !kept.plain || is_plain_cell(cell)
 }
 
-// The slow way, by the tags.
-#[inline(never)]
-fn join_tags(cells: &mut [u16], place: usize, cell: u16) -> bool
+// Whether the tag of a cell is Any, or below it.
+#[tactic(auto, using(crate::proofs::Plain::low_cell, crate::proofs::Plain::mixed_cell, crate::proofs::Plain::named_cell))]
+fn is_at_most_any(cell: u16) -> bool
+    ensures { result ≡ at_most_any (tag_of cell) }
+{
+    if cell < MIXED {
+        return true;
+    }
+    if cell < NAMED {
+        return false;
+    }
+    cell < FIELD
+}
+
+// The cell of the least tag above those of two cells that differ, and of which none is that of Bot.
+fn join_others(a: u16, b: u16) -> u16
+    requires differ { tag_of a ≢ tag_of b }
+    requires left { tag_of a ≢ Tag.Bot }
+    requires right { tag_of b ≢ Tag.Bot }
+    ensures joins { IsJoin (tag_of a) (tag_of b) (tag_of result) }
+    ensures fits { result < cell_count }
+{
+    if !is_at_most_any(a) {
+        return MIXED;
+    }
+    if !is_at_most_any(b) {
+        return MIXED;
+    }
+    ANY
+}
+
+// Cells that differ, none of Bot.
+fn raise(cells: &mut [u16], place: usize, cell: u16) -> bool
     requires place { place < length cells.old }
     requires fits { cell < cell_count }
+    requires differ { cell ≢ slice_index cells.old place }
+    requires before { slice_index cells.old place ≢ 0 }
+    requires cell { cell ≢ 0 }
     requires cells { AreCells cells.old }
     ensures joins { JoinsIn cells.old place (tag_of cell) cells.new result }
     ensures cells { AreCells cells.new }
     ensures len { length cells.new ≡ length cells.old }
 {
-    let before = Tag::of_cell(cells[place]);
-    let joined = join(before, Tag::of_cell(cell));
+    let before = cells[place];
+    let joined = join_others(before, cell);
     if joined == before {
         return false;
     }
-    cells[place] = joined.cell();
+    cells[place] = joined;
     true
 }
 
@@ -79,7 +118,10 @@ pub(crate) fn join_cell(cells: &mut [u16], place: usize, cell: u16) -> bool
         cells[place] = cell;
         return true;
     }
-    join_tags(cells, place, cell)
+    if cell == 0 {
+        return false;
+    }
+    raise(cells, place, cell)
 }
 
 // The first register from one on that is not kept, whatever its tag is.

@@ -1,5 +1,5 @@
 use Rattle.std.proofs.Common.{arith}
-use Rattle.tag_flow.proofs.Turns.{source_kept, turn_end, turn_more, turn_start}
+use Rattle.tag_flow.proofs.Turns.{source_kept, turn_end, turn_more, turn_none}
 use Rattle.tag_flow.proofs.calling.enter_cells.Goals as goal
 
 pub enter_cell-changed-requires-clause-source : goal.enter_cell-changed-requires-clause-source
@@ -8,7 +8,7 @@ enter_cell-changed-requires-clause-source c =
 
 pub loop-register-init : goal.loop-register-init
 loop-register-init c =
-    turn_start _ _ _
+    turn_none _ _ _ (λ r lt. c.first_open-first.ensures _ r lt)
 
 pub loop-register-preserved : goal.loop-register-preserved
 loop-register-preserved c =

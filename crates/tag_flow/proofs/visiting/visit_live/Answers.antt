@@ -1,7 +1,6 @@
-use Rattle.std.proofs.Common.{◌≡◌, ◌∙◌, ap, refl, sym}
+use Rattle.std.proofs.Common.{◌≡◌, ◌∙◌, ap, sym}
 use Rattle.std.proofs.lemmas.Bool.{false≢true}
 use Rattle.flow_model.specs.TagFlow.{can_throw, is_call, leads_on}
-use Rattle.act_model.specs.declared.act.Act.{Act}
 use Rattle.tag_flow.proofs.Turns.{turn_as}
 use Rattle.tag_flow.proofs.Parts.{calls_nothing, not_call}
 use Rattle.tag_flow.proofs.visiting.visit_live.Goals as goal

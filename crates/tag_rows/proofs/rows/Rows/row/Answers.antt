@@ -1,4 +1,4 @@
-use Rattle.std.proofs.Common.{◌≡◌, ◌<◌, ◌∙◌, ◌+◌, ap, arith, get_or, length, List, ℕ, map, subst, sym, []}
+use Rattle.std.proofs.Common.{◌≡◌, ◌<◌, ◌∙◌, ◌+◌, arith, get_or, length, List, ℕ, map, subst, sym, []}
 use Rattle.std.proofs.lemmas.List.{length-map}
 use Rattle.std.specs.List.{slice_range}
 use Rattle.app_model.specs.TagTable.{row_at, tag_of}
