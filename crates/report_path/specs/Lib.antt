@@ -1,0 +1,4 @@
+pub mod Lookups
+pub mod Paths
+pub mod Views
+pub mod Reports

@@ -1,0 +1,8 @@
+//! Reports: a violation of the exit policy with a way to it, which the flow rules allow step by step, and the test of it.
+#![tactic(auto)]
+
+mod laws;
+mod report;
+
+pub use laws::report_law;
+pub use report::{BodyPath, By, Report, Step, ViewStep};
