@@ -1,0 +1,5 @@
+pub mod Pcs
+pub mod Ways
+pub mod Tests
+pub mod Lists
+pub mod Law
