@@ -3,3 +3,4 @@ pub mod Ways
 pub mod Tests
 pub mod Lists
 pub mod Law
+pub mod Instances

@@ -38,3 +38,6 @@ none_more P n none off = λ k lt p. ⊎_elim (λ below. none k below p) (λ from
 
 pub found_none : (P : ℕ → Type 0) (n : ℕ) → NoneBelow P n → ((k : ℕ) → P k → k < n) → IsTrue false ↔ ((k : ℕ) × P k)
 found_none P n none within = (λ h. absurd (false≢true h), λ z. absurd (none z.0 (within z.0 z.1) z.1))
+
+pub past_read : {A : Type 0} → (xs : List A) (k : ℕ) → length xs ≤ k → None ≡ slice_get xs k
+past_read xs k past = sym (slice_get_past xs k past)

@@ -2,7 +2,8 @@
 ghost use Rattle.std.specs.Prelude.{◌≡◌, ◌<◌, ◌↔◌, Contains, IsTrue, length};
 ghost use Rattle.app_model.specs.Masks.{in_mask};
 ghost use Rattle.app_model.specs.Words.{code_len, handler_at, successor_at};
-ghost use Rattle.flow_model.specs.Subject.{returns_at};
+ghost use Rattle.flow_model.specs.Subject.{is_open, returns_at};
+ghost use Rattle.app_model.specs.Subject.{callees_at};
 ghost use Rattle.report_path.specs.Tests.{ByCall, ByItself, CaughtAt, ComesBack, ComesFrom, IsCalled, IsSpot, LeadsOn, PassesBy, PassesTo, ThrownTo, masks_of};
 
 use crate::goal::Goal;
@@ -185,11 +186,29 @@ impl<'a> Spot<'a> {
     fn calls(&self, method: u32) -> bool
         ensures { IsTrue result ↔ IsCalled self.now method }
     {
-        let subject = self.subject;
-        if !opens(subject, self.lock, self.method, self.index, self.status) {
+        if !self.is_open() {
             return false;
         }
-        has_callee(subject.graph.callees(self.method, self.index), method)
+        has_callee(self.callees(), method)
+    }
+
+    fn is_open(&self) -> bool
+        ensures { result ≡ is_open self.now.subject self.now.lock self.now.method self.now.index self.now.status }
+    {
+        opens(
+            self.subject,
+            self.lock,
+            self.method,
+            self.index,
+            self.status,
+        )
+    }
+
+    fn callees(&self) -> &[MethodNo]
+        ensures { result.now ≡ callees_at self.now.subject self.now.method self.now.index }
+    {
+        let subject = self.subject;
+        subject.graph.callees(self.method, self.index)
     }
 
     fn comes_back(&self, goal: Goal) -> bool

@@ -37,13 +37,15 @@ impl<'a> Entered<'a> {
     fn follows(&self, spot: &Spot, cites: Option<u32>, goal: Goal, status: u8) -> bool
         ensures { IsTrue result ↔ Has (cited_in self.now.before cites) (λ ends. Follows spot.now.subject spot.now.lock (At spot.now.method self.now.status spot.now.index spot.now.status ∷ ends) (fact_at goal spot.now.method self.now.status status)) }
     {
-        let before = self.before;
         match cites {
             None => spot.leads_itself(goal, status),
-            Some(body) => match before.get(body as usize) {
-                Some(body) => spot.leads_by(body, goal, status),
-                None => false,
-            },
+            Some(number) => {
+                let number = number as usize;
+                if number >= self.before.len() {
+                    return false;
+                }
+                spot.leads_by(&self.before[number], goal, status)
+            }
         }
     }
 
