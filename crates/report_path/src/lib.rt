@@ -7,6 +7,7 @@ mod places;
 mod report;
 mod spot;
 mod steps;
+mod views;
 
 pub use laws::report_law;
 pub use report::{BodyPath, By, Report, Step, ViewStep};
