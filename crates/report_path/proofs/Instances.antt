@@ -1,6 +1,6 @@
 -- The tests of one step, and the instances of the rules that lead on from it.
 use Rattle.std.proofs.Common.{◌≡◌, ℕ, Bool, true, false, List, [], ◌∷◌, Option, Some, None, refl, sym, ap, ◌∙◌, subst, ⊎_elim, inl, inr}
-use Rattle.std.specs.Prelude.{◌↔◌, ◌⊎◌, ◌≢◌, Contains, IsTrue, slice_get, option_map}
+use Rattle.std.specs.Prelude.{◌↔◌, ◌≢◌, Contains, IsTrue, slice_get, option_map}
 use Rattle.std.proofs.lemmas.Bool.{cases_Bool}
 use Rattle.ns_base.specs.declared.rows.MethodNo.{MethodNo}
 use Rattle.app_model.specs.Facts.{Fact, At, Ret, Exc}

@@ -1,6 +1,6 @@
 -- The violation of a valid report is derived: bodies and views are shown in their order, each from those before it.
-use Rattle.std.proofs.Common.{suc, zero, ◌-◌, ◌≡◌, ℕ, ◌<◌, ◌+◌, Bool, true, false, List, [], ◌∷◌, length, get_or, Option, Some, None, refl, sym, ap, ◌∙◌, subst, inl, inr, arith, add-one}
-use Rattle.std.specs.Prelude.{◌≢◌, slice_get, take, option_map}
+use Rattle.std.proofs.Common.{suc, zero, ◌-◌, ◌≡◌, ℕ, ◌<◌, Bool, true, false, List, [], ◌∷◌, length, get_or, Option, Some, None, refl, ap, ◌∙◌, subst, inl, inr, arith, add-one}
+use Rattle.std.specs.Prelude.{slice_get, take, option_map}
 use Rattle.std.proofs.lemmas.Option.{slice_get-get_or, slice_get_within}
 use Rattle.app_model.specs.declared.component.Edge.{Edge}
 use Rattle.app_model.specs.Components.{edge_at}
@@ -16,8 +16,8 @@ use Rattle.report_path.specs.declared.report.By.TheVariants.{Start, Outside, Own
 use Rattle.report_path.specs.declared.report.Report.{Report}
 use Rattle.report_path.specs.declared.report.Step.{Step}
 use Rattle.report_path.specs.declared.report.ViewStep.{ViewStep}
-use Rattle.report_path.specs.Paths.{Entry, Begins, IsPath, LeadsTo, cited_in, end_fact, end_of, entry_of, index_at}
-use Rattle.report_path.specs.Reports.{IsValidReport, RightBody, RightView, case_of}
+use Rattle.report_path.specs.Paths.{Entry, Begins, IsPath, LeadsTo, cited_in, end_fact, end_of, index_at}
+use Rattle.report_path.specs.Reports.{IsValidReport, RightBody, RightView}
 use Rattle.report_path.specs.Views.{Case, IsBy, IsOwn, Moves, fact_of}
 use Rattle.report_path.proofs.Lists.{take_get, from_below}
 use Rattle.report_path.proofs.Pcs.{first_index}

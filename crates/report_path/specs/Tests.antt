@@ -1,6 +1,5 @@
 -- What the test of a report asks of one instruction, and of the last step.
-use Rattle.std.specs.Prelude.{ℕ, ◌≡◌, ◌<◌, ◌≤◌, ◌⊎◌, Bool, true, false, List, Option, Some, None, Contains, length, slice_get}
-use Rattle.ns_base.specs.declared.rows.MethodNo.{MethodNo}
+use Rattle.std.specs.Prelude.{ℕ, ◌≡◌, ◌<◌, ◌≤◌, ◌⊎◌, Bool, true, false, List, Some, Contains, length, slice_get}
 use Rattle.app_model.specs.declared.component.Edge.{Edge}
 use Rattle.app_model.specs.Components.{edge_at, exits_at}
 use Rattle.app_model.specs.Facts.{Fact, At, Ret, Exc}

@@ -1,5 +1,4 @@
-use Rattle.std.proofs.Common.{arith, false}
-use Rattle.std.proofs.lemmas.Bool.{false≢true}
+use Rattle.std.proofs.Common.{arith}
 use Rattle.report_path.proofs.Pcs.{index_is, index_none, no_method, none_at, pc_within}
 use Rattle.report_path.proofs.places.index_of.Goals as goal
 
