@@ -38,13 +38,13 @@ thrown_at Returned n f t m e s is = absurd (cc)
 thrown_at Thrown n f t m e s is = record { goal_is = refl; status_is = cc }
 
 -- ---- what an end tells of its body
-record IsOf (thrown : Bool) (m e s : ℕ) (is : Bool) (n r t : ℕ) : Type 0 where
-  thrown_is : thrown ≡ is
-  method : n ≡ m
-  entry : r ≡ e
-  exit : t ≡ s
+pub record IsOf (thrown : Bool) (m e s : ℕ) (is : Bool) (n r t : ℕ) : Type 0 where
+  pub thrown_is : thrown ≡ is
+  pub method : n ≡ m
+  pub entry : r ≡ e
+  pub exit : t ≡ s
 
-returned_by : (thrown : Bool) (m e s n r t : ℕ) → Ret n r t ≡ end_fact thrown m e s → IsOf thrown m e s false n r t
+pub returned_by : (thrown : Bool) (m e s n r t : ℕ) → Ret n r t ≡ end_fact thrown m e s → IsOf thrown m e s false n r t
 returned_by true m e s n r t is = absurd (cc)
 returned_by false m e s n r t is = record { thrown_is = refl; method = cc; entry = cc; exit = cc }
 

@@ -4,3 +4,6 @@ pub mod Tests
 pub mod Lists
 pub mod Law
 pub mod Instances
+pub mod Carrying
+pub mod Exits
+pub mod Pieces

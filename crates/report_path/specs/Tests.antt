@@ -1,5 +1,5 @@
 -- What the test of a report asks of one instruction, and of the last step.
-use Rattle.std.specs.Prelude.{ℕ, ◌≡◌, ◌<◌, ◌≤◌, ◌⊎◌, Bool, true, false, List, Some, Contains, length, slice_get}
+use Rattle.std.specs.Prelude.{ℕ, ◌≡◌, ◌<◌, ◌≤◌, ◌⊎◌, Bool, true, false, List, [], ◌∷◌, Option, Some, Contains, length}
 use Rattle.app_model.specs.declared.component.Edge.{Edge}
 use Rattle.app_model.specs.Components.{edge_at, exits_at}
 use Rattle.app_model.specs.Facts.{Fact, At, Ret, Exc}
@@ -14,7 +14,7 @@ use Rattle.report_path.specs.declared.report.BodyPath.{BodyPath}
 use Rattle.report_path.specs.declared.report.Report.{Report}
 use Rattle.report_path.specs.declared.report.ViewStep.{ViewStep}
 use Rattle.report_path.specs.Lookups.{Has}
-use Rattle.report_path.specs.Paths.{end_of}
+use Rattle.report_path.specs.Paths.{cited_in}
 use Rattle.report_path.specs.Views.{Case, Moves}
 
 -- the first instruction of method m from which on no pc is below that one
@@ -95,9 +95,15 @@ pub record ByCall (t : Spot) (b : BodyPath) (goal : Goal) (s : ℕ) : Type 0 whe
   pub exit : b.exit ≡ s
   pub comes : ComesFrom t b.thrown goal
 
--- ---- the body of that number shows the fact
-abbrev pub Shows : List BodyPath → (j : ℕ) → Fact → Type 0
-Shows bodies j f = Has (slice_get bodies j) (λ b. end_of b ≡ f)
+-- ---- the body that is cited shows the fact
+abbrev pub Shows : List BodyPath → (body : Option ℕ) → Fact → Type 0
+Shows bodies body f = Has (cited_in bodies body) (λ ends. ends ≡ f ∷ [])
+
+pub record IsReturn (b : BodyPath) (m e s : ℕ) : Type 0 where
+  pub thrown : b.thrown ≡ false
+  pub method : b.method ≡ m
+  pub entry : b.entry ≡ e
+  pub exit : b.exit ≡ s
 
 -- ---- the last step
 pub record IsUnmet (x : SubjectParts) (r : Report) : Type 0 where

@@ -1,36 +1,17 @@
 //! The views of a report: whether each follows from earlier ones by an edge.
-ghost use Rattle.std.specs.Prelude.{◌≡◌, ◌↔◌, IsTrue, Some, length, slice_get};
-ghost use Rattle.app_model.specs.Components.{edge_at};
-ghost use Rattle.app_model.specs.Facts.{Ret};
-ghost use Rattle.flow_model.specs.Rules.{Carries, entered};
-ghost use Rattle.report_path.specs.Lookups.{Has};
-ghost use Rattle.report_path.specs.Paths.{cited_in};
-ghost use Rattle.report_path.specs.Tests.{Shows};
-ghost use Rattle.report_path.specs.Views.{IsAfter, IsBeside, IsOther, IsOwn, IsStart, IsView, Moves};
+ghost use Rattle.std.specs.Prelude.{◌≡◌, ◌↔◌, IsTrue, slice_get};
+ghost use Rattle.report_path.specs.Views.{IsAfter, IsBeside, IsOther, IsOwn, IsStart, IsView};
 
-use crate::report::{BodyPath, By, ViewStep};
-use app_model::{Edge, Subject};
-use component_list::edge;
-use ns_base::{ComponentNo, LockNo};
-use std::marker::Model;
+use crate::report::{By, ViewStep};
+use crate::task::Task;
+use app_model::Edge;
 
-// Each status where an edge clears the field.
-const RESET: [u8; 8] = [0, 0, 7, 7, 7, 0, 7, 7];
-
-/// A lock field of a subject, and the bodies of a report.
-#[derive(Drop)]
-pub struct Task<'a> {
-    subject: &'a Subject,
-    lock: LockNo,
-    bodies: &'a [BodyPath],
-}
-
-impl<'a> Model for Task<'a> {
-    ghost use Rattle.report_path.specs.Views.{Case};
-
-    ghost Value = { Case };
-
-    ghost view = { λ t. record { subject = t.subject.now; lock = t.lock.0; bodies = t.bodies.now } };
+/// An edge from a view, by its number, and the body that is cited.
+#[derive(Clone, Copy)]
+struct Move {
+    view: u32,
+    edge: u32,
+    body: Option<u32>,
 }
 
 /// The view of that number.
@@ -40,33 +21,114 @@ pub fn view_at(views: &[ViewStep], number: u32) -> Option<ViewStep>
     views.get(number as usize).copied()
 }
 
-impl<'a> Task<'a> {
-    pub fn new(subject: &'a Subject, lock: LockNo, bodies: &'a [BodyPath]) -> Task<'a>
-        ensures { result ≡ record { subject = subject.now; lock = lock.0; bodies = bodies.now } }
-    {
-        Task {
-            subject,
-            lock,
-            bodies,
-        }
-    }
+fn is_start(task: &Task, view: ViewStep) -> bool
+    ensures { IsTrue result ↔ IsStart task.now view }
+{
+    (view.component as usize) < task.component_count() && view.state == 0 && view.status == 0
+}
 
-    /// An edge of a component.
-    #[tactic(auto, unfolding(app_model::specs::Components::edge_at))]
-    pub fn edge(&self, component: u32, number: u32) -> Option<Edge>
-        ensures { result ≡ edge_at self.now.subject.list component number }
-    {
-        let subject = self.subject;
-        match subject.list.rows.get(component as usize) {
-            Some(row) => edge(row.kind, number),
-            None => None,
-        }
+fn is_after(task: &Task, first: ViewStep, view: ViewStep, edge: Edge, body: Option<u32>) -> bool
+    ensures { IsTrue result ↔ IsAfter task.now first view body edge }
+{
+    if first.component != view.component {
+        return false;
     }
+    if edge.to != view.state {
+        return false;
+    }
+    task.moves(first, edge, body, view.status)
+}
 
-    fn is_start(&self, view: ViewStep) -> bool
-        ensures { IsTrue result ↔ IsStart self.now view }
-    {
-        let subject = self.subject;
-        (view.component as usize) < subject.list.rows.len() && view.state == 0 && view.status == 0
+fn is_own(task: &Task, before: &[ViewStep], view: ViewStep, by: Move) -> bool
+    ensures { IsTrue result ↔ IsOwn task.now before.now view by.view by.edge by.body }
+{
+    let Some(first) = view_at(before, by.view) else {
+        return false;
+    };
+    match task.edge(first.component, by.edge) {
+        Some(edge) => is_after(task, first, view, edge, by.body),
+        None => false,
+    }
+}
+
+fn is_beside(
+    task: &Task,
+    first: ViewStep,
+    mover: ViewStep,
+    view: ViewStep,
+    edge: Edge,
+    body: Option<u32>,
+) -> bool
+    ensures { IsTrue result ↔ IsBeside task.now first mover view body edge }
+{
+    if first.component != view.component {
+        return false;
+    }
+    if first.state != view.state {
+        return false;
+    }
+    if first.status != mover.status {
+        return false;
+    }
+    if mover.component == view.component {
+        return false;
+    }
+    task.moves(mover, edge, body, view.status)
+}
+
+fn is_other(task: &Task, before: &[ViewStep], view: ViewStep, first: u32, by: Move) -> bool
+    ensures { IsTrue result ↔ IsOther task.now before.now view first by.view by.edge by.body }
+{
+    let Some(first) = view_at(before, first) else {
+        return false;
+    };
+    let Some(mover) = view_at(before, by.view) else {
+        return false;
+    };
+    match task.edge(mover.component, by.edge) {
+        Some(edge) => is_beside(task, first, mover, view, edge, by.body),
+        None => false,
+    }
+}
+
+/// Whether a view is valid, which may cite those before it.
+pub fn is_view(task: &Task, before: &[ViewStep], view: ViewStep) -> bool
+    ensures { IsTrue result ↔ IsView task.now before.now view }
+{
+    match view.by {
+        By::Start => is_start(task, view),
+        By::Outside { view: first, edge } => {
+            let by = Move {
+                view: first,
+                edge,
+                body: None,
+            };
+            is_own(task, before, view, by)
+        }
+        By::Own {
+            view: first,
+            edge,
+            body,
+        } => {
+            let by = Move {
+                view: first,
+                edge,
+                body: Some(body),
+            };
+            is_own(task, before, view, by)
+        }
+        By::Other {
+            view: first,
+            mover,
+            edge,
+            body,
+        } => {
+            let by = Move {
+                view: mover,
+                edge,
+                body,
+            };
+            is_other(task, before, view, first, by)
+        }
     }
 }
