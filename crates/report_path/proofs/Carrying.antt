@@ -2,17 +2,16 @@
 use Rattle.std.proofs.Common.{◌≡◌, ℕ, ◌≤◌, ◌&&◌, Bool, true, false, List, [], ◌∷◌, Option, Some, None, length, refl, sym, ap, ◌∙◌, subst, arith}
 use Rattle.std.specs.Prelude.{◌↔◌, IsTrue, option_map, slice_get}
 use Rattle.std.proofs.lemmas.List.{get_or_past}
-use Rattle.std.proofs.lemmas.Bool.{cases_Bool}
 use Rattle.std.proofs.lemmas.Option.{slice_get_past}
 use Rattle.app_model.specs.declared.component.Edge.{Edge}
 use Rattle.app_model.specs.Components.{callback_at}
 use Rattle.app_model.specs.Facts.{Fact, Ret}
 use Rattle.app_model.specs.Subject.{SubjectParts, IsSubject, owner_at, owner_of, slot_count}
-use Rattle.flow_model.specs.Rules.{Carries, outside, by_method, clears, entered, is_owner}
+use Rattle.flow_model.specs.Rules.{Carries, outside, by_method, clears, entered}
 use Rattle.flow_model.specs.Status.{reset, reset_column}
 use Rattle.report_path.specs.declared.report.BodyPath.{BodyPath}
 use Rattle.report_path.specs.Lookups.{Has}
-use Rattle.report_path.specs.Paths.{cited_in, end_of, end_fact}
+use Rattle.report_path.specs.Paths.{cited_in, end_of}
 use Rattle.report_path.specs.Tests.{IsReturn, Shows}
 use Rattle.report_path.proofs.Instances.{returned_by}
 

@@ -1,5 +1,5 @@
 -- The last step of a report.
-use Rattle.std.proofs.Common.{◌≡◌, ℕ, Bool, true, false, List, ◌∷◌, Option, Some, None, refl, sym, ap, ◌∙◌, subst, ◌<◌}
+use Rattle.std.proofs.Common.{◌≡◌, ℕ, Bool, true, List, ◌∷◌, Option, Some, None, refl, sym, ap, ◌∙◌, subst, ◌<◌}
 use Rattle.std.specs.Prelude.{◌↔◌, IsTrue, length, slice_get}
 use Rattle.std.proofs.lemmas.Option.{slice_get_within}
 use Rattle.app_model.specs.declared.component.Edge.{Edge}
@@ -10,7 +10,6 @@ use Rattle.app_model.specs.Subject.{SubjectParts, answers_at, slot_count}
 use Rattle.flow_model.proofs.MaskLaws.{IsIn-zero}
 use Rattle.flow_model.specs.Rules.{Carries}
 use Rattle.report_path.specs.declared.report.Report.{Report}
-use Rattle.report_path.specs.declared.report.ViewStep.{ViewStep}
 use Rattle.report_path.specs.Lookups.{Has}
 use Rattle.report_path.specs.Reports.{IsExit, case_of}
 use Rattle.report_path.specs.Tests.{IsEnd, IsUnmet}
@@ -55,21 +54,24 @@ module _ (x : SubjectParts) (r : Report) where
       record {
         value = v;
         at = h.at;
-        holds = (sym same.component, record {
-          value = i.edge;
-          at = (let there = i.there in let number = cited.holds.edge in rw number at there);
-          holds = record {
-            callback = i.callback;
-            moves = record {
-              state = i.from ∙ same.state;
-              carried = record {
-                value = cited.value;
-                at = cited.at;
-                holds = carries_as x r.lock r.component i.edge r.status v.component i.before v.status i.needs cited.value same.component same.status same.facts i.carried;
+        holds = (
+          sym same.component,
+          record {
+            value = i.edge;
+            at = (let there = i.there in let number = cited.holds.edge in rw number at there);
+            holds = record {
+              callback = i.callback;
+              moves = record {
+                state = i.from ∙ same.state;
+                carried = record {
+                  value = cited.value;
+                  at = cited.at;
+                  holds = carries_as x r.lock r.component i.edge r.status v.component i.before v.status i.needs cited.value same.component same.status same.facts i.carried;
+                };
               };
             };
-          };
-        });
+          },
+        );
       }
 
   pub exit_of_end : IsUnmet x r → Has (slice_get r.views.items r.view) (λ v. IsEnd (case_of x r) r v) → IsExit x r

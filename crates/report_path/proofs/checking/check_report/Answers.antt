@@ -11,7 +11,7 @@ returns-in-Some c = (
 pub overflow_add-result : goal.overflow_add-result
 overflow_add-result c = (
     let first : FirstWrong (RightView (case_of c.args.subject.now c.args.report.now) c.args.report.now.views.items) (Some c.in-Some-wrong_view.k) =
-        rw (c.new-task.ensures, c.deref-bodies.ensures.value, c.deref-views.ensures.value) at c.in-Some-wrong_view.ensures in
+    rw (c.new-task.ensures, c.deref-bodies.ensures.value, c.deref-views.ensures.value) at c.in-Some-wrong_view.ensures in
     let within = view_within c.args.subject.now c.args.report.now _ first in
     let len = ap length c.deref-bodies.ensures.value in
     omega (arith, within, len, c.requires))
@@ -19,7 +19,7 @@ overflow_add-result c = (
 pub overflow_cast-result-in-Some-wrong_view : goal.overflow_cast-result-in-Some-wrong_view
 overflow_cast-result-in-Some-wrong_view c = (
     let first : FirstWrong (RightView (case_of c.args.subject.now c.args.report.now) c.args.report.now.views.items) (Some c.in-Some-wrong_view.k) =
-        rw (c.new-task.ensures, c.deref-bodies.ensures.value, c.deref-views.ensures.value) at c.in-Some-wrong_view.ensures in
+    rw (c.new-task.ensures, c.deref-bodies.ensures.value, c.deref-views.ensures.value) at c.in-Some-wrong_view.ensures in
     let within = view_within c.args.subject.now c.args.report.now _ first in
     let len = ap length c.deref-bodies.ensures.value in
     omega (arith, within, len, c.requires))
@@ -28,14 +28,14 @@ pub returns-in-Some-wrong_view : goal.returns-in-Some-wrong_view
 returns-in-Some-wrong_view c = (
     let bodies : FirstWrong (RightBody (case_of c.args.subject.now c.args.report.now)) None = rw c.deref-bodies.ensures.value at c.in_default.ensures in
     let first : FirstWrong (RightView (case_of c.args.subject.now c.args.report.now) c.args.report.now.views.items) (Some c.in-Some-wrong_view.k) =
-        rw (c.new-task.ensures, c.deref-bodies.ensures.value, c.deref-views.ensures.value) at c.in-Some-wrong_view.ensures in
+    rw (c.new-task.ensures, c.deref-bodies.ensures.value, c.deref-views.ensures.value) at c.in-Some-wrong_view.ensures in
     rw c.deref-bodies.ensures.value (view_first c.args.subject.now c.args.report.now _ bodies first))
 
 pub returns-then-not-is_exit : goal.returns-then-not-is_exit
 returns-then-not-is_exit c = (
     let bodies : FirstWrong (RightBody (case_of c.args.subject.now c.args.report.now)) None = rw c.deref-bodies.ensures.value at c.in_default.ensures in
     let views : FirstWrong (RightView (case_of c.args.subject.now c.args.report.now) c.args.report.now.views.items) None =
-        rw (c.new-task.ensures, c.deref-bodies.ensures.value, c.deref-views.ensures.value) at c.in_default-wrong_view.ensures in
+    rw (c.new-task.ensures, c.deref-bodies.ensures.value, c.deref-views.ensures.value) at c.in_default-wrong_view.ensures in
     rw (c.deref-bodies.ensures.value, c.deref-views.ensures.value) (exit_first c.args.subject.now c.args.report.now bodies views (λ x. (let t = c.is_exit.ensures.1 x in let f = c.if-not-is_exit.true in cc))))
 
 pub returns : goal.returns
