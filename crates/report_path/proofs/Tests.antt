@@ -23,9 +23,6 @@ has_test {P = P} r o x e same = (λ t. record { value = x; at = sym e; holds = s
 pub has_none : {A : Type 0} → {P : A → Type 0} → (o : Option A) → None ≡ o → IsTrue false ↔ Has o P
 has_none o e = (λ t. absurd (cc), λ h. absurd (let at = h.at in cc))
 
-pub has_past : {A : Type 0} → {P : A → Type 0} → (xs : List A) (k : ℕ) → length xs ≤ k → IsTrue false ↔ Has (slice_get xs k) P
-has_past xs k past = has_none (slice_get xs k) (sym (slice_get_past xs k past))
-
 pub at_read : {A : Type 0} → (xs : List A) (k : ℕ) (x : A) → k < length xs → x ≡ get_or xs k x → Some x ≡ slice_get xs k
 at_read xs k x lt e = sym (slice_get_read xs (length xs) k x refl lt e)
 
