@@ -1,8 +1,8 @@
 -- What tests and searches show.
-use Rattle.std.proofs.Common.{◌≡◌, ◌+◌, ◌<◌, ◌≤◌, ℕ, Bool, false, List, length, get_or, Option, Some, None, refl, sym, subst, ⊎_elim, arith}
+use Rattle.std.proofs.Common.{◌≡◌, ◌+◌, ◌<◌, ◌≤◌, ℕ, Bool, false, List, length, Option, Some, None, sym, subst, ⊎_elim, arith}
 use Rattle.std.specs.Prelude.{◌↔◌, IsTrue, slice_get}
 use Rattle.std.proofs.lemmas.Bool.{cases_lt, false≢true}
-use Rattle.std.proofs.lemmas.Option.{slice_get_read, slice_get_past}
+use Rattle.std.proofs.lemmas.Option.{slice_get_past}
 use Rattle.report_path.specs.Lookups.{Has}
 
 -- ---- a part is wrong, so the whole is
@@ -22,9 +22,6 @@ has_test {P = P} r o x e same = (λ t. record { value = x; at = sym e; holds = s
 
 pub has_none : {A : Type 0} → {P : A → Type 0} → (o : Option A) → None ≡ o → IsTrue false ↔ Has o P
 has_none o e = (λ t. absurd (cc), λ h. absurd (let at = h.at in cc))
-
-pub at_read : {A : Type 0} → (xs : List A) (k : ℕ) (x : A) → k < length xs → x ≡ get_or xs k x → Some x ≡ slice_get xs k
-at_read xs k x lt e = sym (slice_get_read xs (length xs) k x refl lt e)
 
 -- ---- searches for a number of which something holds, from 0 on: it holds of no number below n
 abbrev pub NoneBelow : (ℕ → Type 0) → ℕ → Type 0
