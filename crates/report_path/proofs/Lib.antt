@@ -1,0 +1,9 @@
+pub mod Pcs
+pub mod Ways
+pub mod Tests
+pub mod Lists
+pub mod Law
+pub mod Instances
+pub mod Carrying
+pub mod Exits
+pub mod Pieces

@@ -1,0 +1,66 @@
+//! What a report is made of. Numbers count methods, components, edges of a lifecycle, and the bodies and views of the report.
+
+/// An instruction of a body, by its pc, with the status before it, and the number of the body that it cites: of the method
+/// that is called there, up to its end.
+#[derive(Clone, Copy, Debug, PartialEq, Eq)]
+pub struct Step {
+    pub pc: u32,
+    pub status: u8,
+    pub cites: Option<u32>,
+}
+
+/// A way through a method, from its entry at a status to where it returns, or where a throw leaves it.
+#[derive(Drop)]
+pub struct BodyPath {
+    pub method: u32,
+    pub entry: u8,
+    pub thrown: bool,
+    pub exit: u8,
+    pub steps: Vec<Step>,
+}
+
+/// How a component comes to a state and a status: it begins so; an edge of its own leads on from a view, whose callback is
+/// outside, or is a method with the cited body; or the edge of another component leads on, from the view of that one.
+#[derive(Clone, Copy, Debug, PartialEq, Eq)]
+pub enum By {
+    Start,
+    Outside {
+        view: u32,
+        edge: u32,
+    },
+    Own {
+        view: u32,
+        edge: u32,
+        body: u32,
+    },
+    Other {
+        view: u32,
+        mover: u32,
+        edge: u32,
+        body: Option<u32>,
+    },
+}
+
+/// A component in a state while the field has a status, at an idle moment.
+#[derive(Clone, Copy, Debug, PartialEq, Eq)]
+pub struct ViewStep {
+    pub component: u32,
+    pub state: u8,
+    pub status: u8,
+    pub by: By,
+}
+
+/// A violation of the exit policy, with a way to it. The last step is an edge from a view, by a body where its callback is a
+/// method.
+#[derive(Drop)]
+pub struct Report {
+    pub component: u32,
+    pub callback: u32,
+    pub lock: u32,
+    pub status: u8,
+    pub bodies: Vec<BodyPath>,
+    pub views: Vec<ViewStep>,
+    pub view: u32,
+    pub edge: u32,
+    pub body: Option<u32>,
+}

@@ -1,0 +1,134 @@
+//! The views of a report: whether each follows from earlier ones by an edge.
+ghost use Rattle.std.specs.Prelude.{◌≡◌, ◌↔◌, IsTrue, slice_get};
+ghost use Rattle.report_path.specs.Views.{IsAfter, IsBeside, IsOther, IsOwn, IsStart, IsView};
+
+use crate::report::{By, ViewStep};
+use crate::task::Task;
+use app_model::Edge;
+
+/// An edge from a view, by its number, and the body that is cited.
+#[derive(Clone, Copy)]
+struct Move {
+    view: u32,
+    edge: u32,
+    body: Option<u32>,
+}
+
+/// The view of that number.
+pub fn view_at(views: &[ViewStep], number: u32) -> Option<ViewStep>
+    ensures { result ≡ slice_get views.now number }
+{
+    views.get(number as usize).copied()
+}
+
+fn is_start(task: &Task, view: ViewStep) -> bool
+    ensures { IsTrue result ↔ IsStart task.now view }
+{
+    (view.component as usize) < task.component_count() && view.state == 0 && view.status == 0
+}
+
+fn is_after(task: &Task, first: ViewStep, view: ViewStep, edge: Edge, body: Option<u32>) -> bool
+    ensures { IsTrue result ↔ IsAfter task.now first view body edge }
+{
+    if first.component != view.component {
+        return false;
+    }
+    if edge.to != view.state {
+        return false;
+    }
+    task.moves(first, edge, body, view.status)
+}
+
+fn is_own(task: &Task, before: &[ViewStep], view: ViewStep, by: Move) -> bool
+    ensures { IsTrue result ↔ IsOwn task.now before.now view by.view by.edge by.body }
+{
+    let Some(first) = view_at(before, by.view) else {
+        return false;
+    };
+    match task.edge(first.component, by.edge) {
+        Some(edge) => is_after(task, first, view, edge, by.body),
+        None => false,
+    }
+}
+
+fn is_beside(
+    task: &Task,
+    first: ViewStep,
+    mover: ViewStep,
+    view: ViewStep,
+    edge: Edge,
+    body: Option<u32>,
+) -> bool
+    ensures { IsTrue result ↔ IsBeside task.now first mover view body edge }
+{
+    if first.component != view.component {
+        return false;
+    }
+    if first.state != view.state {
+        return false;
+    }
+    if first.status != mover.status {
+        return false;
+    }
+    if mover.component == view.component {
+        return false;
+    }
+    task.moves(mover, edge, body, view.status)
+}
+
+fn is_other(task: &Task, before: &[ViewStep], view: ViewStep, first: u32, by: Move) -> bool
+    ensures { IsTrue result ↔ IsOther task.now before.now view first by.view by.edge by.body }
+{
+    let Some(first) = view_at(before, first) else {
+        return false;
+    };
+    let Some(mover) = view_at(before, by.view) else {
+        return false;
+    };
+    match task.edge(mover.component, by.edge) {
+        Some(edge) => is_beside(task, first, mover, view, edge, by.body),
+        None => false,
+    }
+}
+
+/// Whether a view is valid, which may cite those before it.
+pub fn is_view(task: &Task, before: &[ViewStep], view: ViewStep) -> bool
+    ensures { IsTrue result ↔ IsView task.now before.now view }
+{
+    match view.by {
+        By::Start => is_start(task, view),
+        By::Outside { view: first, edge } => {
+            let by = Move {
+                view: first,
+                edge,
+                body: None,
+            };
+            is_own(task, before, view, by)
+        }
+        By::Own {
+            view: first,
+            edge,
+            body,
+        } => {
+            let by = Move {
+                view: first,
+                edge,
+                body: Some(body),
+            };
+            is_own(task, before, view, by)
+        }
+        By::Other {
+            view: first,
+            mover,
+            edge,
+            body,
+        } => {
+            let by = Move {
+                view: mover,
+                edge,
+                body,
+            };
+            is_other(task, before, view, first, by)
+        }
+    }
+}
