@@ -109,9 +109,10 @@ def reports(callback, *statuses, lock="Lapp/R;->wl"):
                    for number, status in enumerate(statuses, 1)).encode()
 
 
-def lock(*views, name="Lapp/R;->wl"):
-    """The lines of a certificate's only lock field, but those of methods: its name, and what may be between callbacks."""
-    return [f"lock 0 {name}", *(f"view {view}" for view in views)]
+def lock(*views, name="Lapp/R;->wl", bodies=()):
+    """The lines of a certificate's only lock field: its name, what may be between callbacks, and those of methods where they
+    are compared too."""
+    return [f"lock 0 {name}", *(f"view {view}" for view in views), *(f"body {body}" for body in bodies)]
 
 
 # Whole applications, those of sample_apps among them: what is shown, the file, the components, the status, and the text; of
@@ -119,7 +120,8 @@ def lock(*views, name="Lapp/R;->wl"):
 USES = [
     ("no component, and a class without members", "bare", [], 0, []),
     ("an outside call throws while a lock is held, and the handler returns", "thrown_leaks", ["receiver R"], 1, LEAK),
-    ("each throw comes to a release", "thrown_released", ["receiver R"], 0, lock("0 0 03")),
+    ("each throw comes to a release", "thrown_released", ["receiver R"], 0,
+     lock("0 0 03", bodies=["0 A 02 03 01010101010101010102020404040204040402", "0 C0 02 02 02020202020202020202020404040204040402"])),
     ("an uncounted lock, acquired at each start and released once", "uncounted_service", ["service S"], 0,
      lock("0 0 21", "0 1 60", name="Lapp/S;->wl")),
     ("a counted one", "counted_service", ["service S"], 1,
@@ -139,7 +141,7 @@ USES = [
     ("a class by its name", "calls_out", ["receiver Reflects"], 2, b"refused N2 Lapp/Reflects;->onReceive 9 2\n"),
     ("an object of a class below a thread's", "calls_out", ["receiver MakesThread"], 2, b"refused N3 Lapp/MakesThread;->onReceive 13 0\n"),
     ("a class initialises its lock field", "initialises", ["receiver R"], 0, lock("0 0 03")),
-    ("64 lock fields that nothing touches", "locks64", [], 0, [f"lock {number} Lapp/L;->f{number}" for number in range(64)]),
+    ("64 lock fields that nothing touches", "locks64", [], 0, [f"lock {number} Lapp/L;->{name}" for number, name in enumerate(sorted(f"f{field}" for field in range(64)))]),
     ("65 of them", "locks65", [], 8, b"limit Locks\n"),
 ]
 
@@ -159,7 +161,8 @@ def is_use_wrong(program, folder, shows, file, rows, status, text):
     if status != 0:
         return differs(shows, ran, status, text)
     head = Certificate(b"", *words).text(folder)
-    lines = [line for line in ran.stdout.decode().splitlines() if line.startswith(("lock ", "view "))]
+    kinds = ("lock ", "view ", "body ") if any(line.startswith("body ") for line in text) else ("lock ", "view ")
+    lines = [line for line in ran.stdout.decode().splitlines() if line.startswith(kinds)]
     if not ran.stdout.startswith(head) or not ran.stdout.endswith(b"end\n") or lines != text:
         print(f"{shows}: another certificate: {ran.stdout[:400]!r}")
         return True
