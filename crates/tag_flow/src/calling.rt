@@ -102,14 +102,14 @@ fn enter_row(known: &Known, state: &mut State, from: Spot, handing: Handing, to:
     changed
 }
 
-fn enter(known: &Known, state: &mut State, from: Spot, act: Act, callee: MethodNo) -> bool
+fn enter(known: &Known, state: &mut State, from: Spot, act: &Act, callee: MethodNo) -> bool
     requires source { IsSource known.now state.old from }
-    requires act { act_at known.now.app from.method.0 from.index ≡ Some act }
+    requires act { act_at known.now.app from.method.0 from.index ≡ Some act.now }
     requires callee { Contains (callees_at known.now.graph from.method.0 from.index) callee }
-    ensures { Turn known.now (Entered known.now from.method.0 from.index act callee) state.old state.new result }
+    ensures { Turn known.now (Entered known.now from.method.0 from.index act.now callee) state.old state.new result }
 {
     known.told();
-    let Some(handing) = handing_of(&act) else {
+    let Some(handing) = handing_of(act) else {
         return false;
     };
     if known.code_len(callee) == 0 {
@@ -154,22 +154,22 @@ fn come_back(known: &Known, state: &mut State, from: Spot, callee: MethodNo) -> 
 
 // ---- a call
 
-fn call_one(known: &Known, state: &mut State, from: Spot, act: Act, callee: MethodNo) -> bool
+fn call_one(known: &Known, state: &mut State, from: Spot, act: &Act, callee: MethodNo) -> bool
     requires source { IsSource known.now state.old from }
-    requires act { act_at known.now.app from.method.0 from.index ≡ Some act }
+    requires act { act_at known.now.app from.method.0 from.index ≡ Some act.now }
     requires callee { Contains (callees_at known.now.graph from.method.0 from.index) callee }
-    ensures { Turn known.now (CalleeDone known.now from.method.0 from.index act callee) state.old state.new result }
+    ensures { Turn known.now (CalleeDone known.now from.method.0 from.index act.now callee) state.old state.new result }
 {
     let entered = enter(known, state, from, act, callee);
     let back = come_back(known, state, from, callee);
     entered | back
 }
 
-fn call_all(known: &Known, state: &mut State, from: Spot, act: Act, callees: &[MethodNo]) -> bool
+fn call_all(known: &Known, state: &mut State, from: Spot, act: &Act, callees: &[MethodNo]) -> bool
     requires source { IsSource known.now state.old from }
-    requires act { act_at known.now.app from.method.0 from.index ≡ Some act }
+    requires act { act_at known.now.app from.method.0 from.index ≡ Some act.now }
     requires callees { callees.now ≡ callees_at known.now.graph from.method.0 from.index }
-    ensures { Turn known.now (Below (CalleeNoDone known.now from.method.0 from.index act) (length (callees_at known.now.graph from.method.0 from.index))) state.old state.new result }
+    ensures { Turn known.now (Below (CalleeNoDone known.now from.method.0 from.index act.now) (length (callees_at known.now.graph from.method.0 from.index))) state.old state.new result }
 {
     let mut changed = false;
     for i in 0..callees.len() {
@@ -184,16 +184,16 @@ fn pass_call(known: &Known, state: &mut State, from: Spot, gone: u64) -> bool
     requires gone { IsUnion known.now from.method.0 from.index gone }
     ensures { Turn known.now (CallPassed known.now from.method.0 from.index gone) state.old state.new result }
 {
-    let past = to_successors(known, state, from, Change::Past { gone });
-    let out = to_handlers(known, state, from, Change::Out { gone });
+    let past = to_successors(known, state, from, &Change::Past { gone });
+    let out = to_handlers(known, state, from, &Change::Out { gone });
     past | out
 }
 
 /// All that flows by the callees of an instruction.
-pub(crate) fn call(known: &Known, state: &mut State, from: Spot, act: Act) -> bool
+pub(crate) fn call(known: &Known, state: &mut State, from: Spot, act: &Act) -> bool
     requires source { IsSource known.now state.old from }
-    requires act { act_at known.now.app from.method.0 from.index ≡ Some act }
-    ensures { Turn known.now (Called known.now from.method.0 from.index act) state.old state.new result }
+    requires act { act_at known.now.app from.method.0 from.index ≡ Some act.now }
+    ensures { Turn known.now (Called known.now from.method.0 from.index act.now) state.old state.new result }
 {
     let callees = known.callees(from);
     let count = callees.len();
@@ -228,13 +228,13 @@ fn answered<R: Row>(row: &R, returned: Returned) -> Tag
 }
 
 /// What a return gives.
-pub(crate) fn give_back(known: &Known, state: &mut State, from: Spot, act: Act) -> bool
+pub(crate) fn give_back(known: &Known, state: &mut State, from: Spot, act: &Act) -> bool
     requires source { IsSource known.now state.old from }
-    requires act { act_at known.now.app from.method.0 from.index ≡ Some act }
-    ensures { Turn known.now (GaveBack known.now from.method.0 from.index act) state.old state.new result }
+    requires act { act_at known.now.app from.method.0 from.index ≡ Some act.now }
+    ensures { Turn known.now (GaveBack known.now from.method.0 from.index act.now) state.old state.new result }
 {
     known.told();
-    let Some(returned) = returned_of(&act) else {
+    let Some(returned) = returned_of(act) else {
         return false;
     };
     let tag = answered(&state.row(known, from), returned);

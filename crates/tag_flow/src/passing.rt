@@ -85,18 +85,18 @@ fn pass_row(known: &Known, state: &mut State, step: &Step) -> bool
 }
 
 // A change to another instruction of the method.
-fn pass_to(known: &Known, state: &mut State, from: Spot, change: Change, to: u32) -> bool
+fn pass_to(known: &Known, state: &mut State, from: Spot, change: &Change, to: u32) -> bool
     requires source { IsSource known.now state.old from }
-    requires leads { Leads known.now from.method.0 from.index to change }
-    ensures { Turn known.now (RowPassed known.now from.method.0 to (row_after from.method.0 from.index change)) state.old state.new result }
+    requires leads { Leads known.now from.method.0 from.index to change.now }
+    ensures { Turn known.now (RowPassed known.now from.method.0 to (row_after from.method.0 from.index change.now)) state.old state.new result }
 {
     known.told();
     let to = known.beside(from, to);
-    let kept = kept_by(&change, from.width);
+    let kept = kept_by(change, from.width);
     let step = Step {
         from,
         to,
-        change,
+        change: *change,
         kept,
     };
     pass_row(known, state, &step)
@@ -104,10 +104,10 @@ fn pass_to(known: &Known, state: &mut State, from: Spot, change: Change, to: u32
 
 /// A change to each successor.
 #[inline(always)]
-pub(crate) fn to_successors(known: &Known, state: &mut State, from: Spot, change: Change) -> bool
+pub(crate) fn to_successors(known: &Known, state: &mut State, from: Spot, change: &Change) -> bool
     requires source { IsSource known.now state.old from }
-    requires leads { (x j : ℕ) → successor_at known.now.app from.method.0 from.index x ≡ Some j → Leads known.now from.method.0 from.index j change }
-    ensures { Turn known.now (AllSucceeded known.now from.method.0 from.index change) state.old state.new result }
+    requires leads { (x j : ℕ) → successor_at known.now.app from.method.0 from.index x ≡ Some j → Leads known.now from.method.0 from.index j change.now }
+    ensures { Turn known.now (AllSucceeded known.now from.method.0 from.index change.now) state.old state.new result }
 {
     known.told();
     let mut changed = false;
@@ -122,10 +122,10 @@ pub(crate) fn to_successors(known: &Known, state: &mut State, from: Spot, change
 
 /// A change to each handler.
 #[inline(always)]
-pub(crate) fn to_handlers(known: &Known, state: &mut State, from: Spot, change: Change) -> bool
+pub(crate) fn to_handlers(known: &Known, state: &mut State, from: Spot, change: &Change) -> bool
     requires source { IsSource known.now state.old from }
-    requires leads { (x j : ℕ) → handler_at known.now.app from.method.0 from.index x ≡ Some j → Leads known.now from.method.0 from.index j change }
-    ensures { Turn known.now (AllHandled known.now from.method.0 from.index change) state.old state.new result }
+    requires leads { (x j : ℕ) → handler_at known.now.app from.method.0 from.index x ≡ Some j → Leads known.now from.method.0 from.index j change.now }
+    ensures { Turn known.now (AllHandled known.now from.method.0 from.index change.now) state.old state.new result }
 {
     known.told();
     let mut changed = false;

@@ -53,33 +53,33 @@ fn goes_by_itself(known: &Known, from: Spot, act: &Act) -> bool
     }
 }
 
-fn go_on(known: &Known, state: &mut State, from: Spot, act: Act) -> bool
+fn go_on(known: &Known, state: &mut State, from: Spot, act: &Act) -> bool
     requires source { IsSource known.now state.old from }
-    requires act { act_at known.now.app from.method.0 from.index ≡ Some act }
-    ensures { Turn known.now (WentOn known.now from.method.0 from.index act) state.old state.new result }
+    requires act { act_at known.now.app from.method.0 from.index ≡ Some act.now }
+    ensures { Turn known.now (WentOn known.now from.method.0 from.index act.now) state.old state.new result }
 {
-    if !goes_by_itself(known, from, &act) {
+    if !goes_by_itself(known, from, act) {
         return false;
     }
-    let site = known.site(from, &act);
-    to_successors(known, state, from, Change::After { site, act })
+    let site = known.site(from, act);
+    to_successors(known, state, from, &Change::After { site, act: *act })
 }
 
-fn throw(known: &Known, state: &mut State, from: Spot, act: Act) -> bool
+fn throw(known: &Known, state: &mut State, from: Spot, act: &Act) -> bool
     requires source { IsSource known.now state.old from }
-    requires act { act_at known.now.app from.method.0 from.index ≡ Some act }
-    ensures { Turn known.now (Threw known.now from.method.0 from.index act) state.old state.new result }
+    requires act { act_at known.now.app from.method.0 from.index ≡ Some act.now }
+    ensures { Turn known.now (Threw known.now from.method.0 from.index act.now) state.old state.new result }
 {
-    if !can_throw(&act) {
+    if !can_throw(act) {
         return false;
     }
-    to_handlers(known, state, from, Change::Thrown { act })
+    to_handlers(known, state, from, &Change::Thrown { act: *act })
 }
 
-fn go_or_throw(known: &Known, state: &mut State, from: Spot, act: Act) -> bool
+fn go_or_throw(known: &Known, state: &mut State, from: Spot, act: &Act) -> bool
     requires source { IsSource known.now state.old from }
-    requires act { act_at known.now.app from.method.0 from.index ≡ Some act }
-    ensures { Turn known.now (λ s. WentOn known.now from.method.0 from.index act s × Threw known.now from.method.0 from.index act s) state.old state.new result }
+    requires act { act_at known.now.app from.method.0 from.index ≡ Some act.now }
+    ensures { Turn known.now (λ s. WentOn known.now from.method.0 from.index act.now s × Threw known.now from.method.0 from.index act.now s) state.old state.new result }
 {
     let on = go_on(known, state, from, act);
     let thrown = throw(known, state, from, act);
@@ -87,10 +87,10 @@ fn go_or_throw(known: &Known, state: &mut State, from: Spot, act: Act) -> bool
 }
 
 // A call of some callee can come back, and a call gives nothing back by itself.
-fn call_and_go(known: &Known, state: &mut State, from: Spot, act: Act) -> bool
+fn call_and_go(known: &Known, state: &mut State, from: Spot, act: &Act) -> bool
     requires source { IsSource known.now state.old from }
-    requires act { act_at known.now.app from.method.0 from.index ≡ Some act }
-    ensures { Turn known.now (λ s. (WentOn known.now from.method.0 from.index act s × Threw known.now from.method.0 from.index act s) × Called known.now from.method.0 from.index act s) state.old state.new result }
+    requires act { act_at known.now.app from.method.0 from.index ≡ Some act.now }
+    ensures { Turn known.now (λ s. (WentOn known.now from.method.0 from.index act.now s × Threw known.now from.method.0 from.index act.now s) × Called known.now from.method.0 from.index act.now s) state.old state.new result }
 {
     let gone = go_or_throw(known, state, from, act);
     let called = call(known, state, from, act);
@@ -105,9 +105,9 @@ fn visit_live(known: &Known, state: &mut State, spot: Spot) -> bool
     known.told();
     let act = known.act(spot);
     match act {
-        Act::Call { .. } => call_and_go(known, state, spot, act),
-        Act::Return { .. } => give_back(known, state, spot, act),
-        _ => go_or_throw(known, state, spot, act),
+        Act::Call { .. } => call_and_go(known, state, spot, &act),
+        Act::Return { .. } => give_back(known, state, spot, &act),
+        _ => go_or_throw(known, state, spot, &act),
     }
 }
 

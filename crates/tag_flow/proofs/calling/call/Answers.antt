@@ -18,5 +18,5 @@ returns c =
     let k = c.args.known.now in
     let m = c.args.from.method.0 in
     let i = c.args.from.index in
-    turn_next k (CallPassed k m i c.gone-gone.result) _ (Called k m i c.args.act) _ _ _ _ _ (λ s passed all n there. ((c.gone-gone.result, c.gone-gone.ensures, passed), all n there)) c.pass_call-passed.ensures
-    (turn_each k (callees_at k.graph m i) (λ n. CalleeDone k m i c.args.act n) _ _ _ c.call_all-called.ensures)
+    turn_next k (CallPassed k m i c.gone-gone.result) _ (Called k m i c.args.act.now) _ _ _ _ _ (λ s passed all n there. ((c.gone-gone.result, c.gone-gone.ensures, passed), all n there)) c.pass_call-passed.ensures
+    (turn_each k (callees_at k.graph m i) (λ n. CalleeDone k m i c.args.act.now n) _ _ _ c.call_all-called.ensures)

@@ -21,7 +21,7 @@ loop-i-preserved c =
     let k = c.args.known.now in
     let from = c.args.from in
     let n : MethodNo = get_or c.args.callees.now c.loop-i.i (record { 0 = 0 }) in
-    turn_more _ _ _ _ _ _ _ _ c.loop-i.invariant (of_one k (slice_get (callees_at k.graph from.method.0 from.index) c.loop-i.i) n (λ n. CalleeDone k from.method.0 from.index c.args.act n) _ _ _
+    turn_more _ _ _ _ _ _ _ _ c.loop-i.invariant (of_one k (slice_get (callees_at k.graph from.method.0 from.index) c.loop-i.i) n (λ n. CalleeDone k from.method.0 from.index c.args.act.now n) _ _ _
     (subst (λ (ns : List MethodNo). slice_get ns c.loop-i.i ≡ Some n) c.requires.callees (slice_get-get_or c.args.callees.now c.loop-i.i (record { 0 = 0 }) c.loop-i-test.true)) c.call_one-changed.ensures)
 
 pub returns : goal.returns

@@ -9,7 +9,7 @@ use Rattle.tag_flow.proofs.calling.enter.Goals as goal
 
 pub returns-in_default : goal.returns-in_default
 returns-in_default c =
-    turn_none _ _ _ (λ how usage arguments gives is lt. absurd (no_handing c.args.act c.in_default.ensures how usage arguments gives is))
+    turn_none _ _ _ (λ how usage arguments gives is lt. absurd (no_handing c.args.act.now c.in_default.ensures how usage arguments gives is))
 
 pub code_len-requires : goal.code_len-requires
 code_len-requires c =
@@ -25,7 +25,7 @@ spot-to-requires-clause-reached c =
 
 pub enter_row-requires-clause-enters : goal.enter_row-requires-clause-enters
 enter_row-requires-clause-enters c =
-    record { spot = c.spot-to.ensures.spot; first = c.spot-to.ensures.index; callee = rw c.spot-to.ensures.method c.requires.callee; call = (let call = handing_call c.args.act c.in-Some.handing c.in-Some.ensures in (call.0, call.1, rw (← call.2) c.requires.act)) }
+    record { spot = c.spot-to.ensures.spot; first = c.spot-to.ensures.index; callee = rw c.spot-to.ensures.method c.requires.callee; call = (let call = handing_call c.args.act.now c.in-Some.handing c.in-Some.ensures in (call.0, call.1, rw (← call.2) c.requires.act)) }
 
 pub returns : goal.returns
 returns c =

@@ -21,16 +21,16 @@ pub loop-number-preserved : goal.loop-number-preserved
 loop-number-preserved c =
     let k = c.args.known.now in
     let from = c.args.from in
-    turn_more _ _ _ _ _ _ _ _ c.loop-number.invariant (of_one k (successor_at k.app from.method.0 from.index c.loop-number.number) c.in-Some.to (λ j. RowPassed k from.method.0 j (row_after from.method.0 from.index c.args.change)) _ _ _ (sym c.in-Some.ensures) c.pass_to-changed.ensures)
+    turn_more _ _ _ _ _ _ _ _ c.loop-number.invariant (of_one k (successor_at k.app from.method.0 from.index c.loop-number.number) c.in-Some.to (λ j. RowPassed k from.method.0 j (row_after from.method.0 from.index c.args.change.now)) _ _ _ (sym c.in-Some.ensures) c.pass_to-changed.ensures)
 
 pub returns-in_default : goal.returns-in_default
 returns-in_default c =
     let k = c.args.known.now in
     let from = c.args.from in
-    successors_none k.app from.method.0 from.index c.told.ensures.app c.requires.source.spot.index k (λ j. RowPassed k from.method.0 j (row_after from.method.0 from.index c.args.change)) _ _ _ c.loop-number.number (sym c.in_default.ensures) c.loop-number.invariant
+    successors_none k.app from.method.0 from.index c.told.ensures.app c.requires.source.spot.index k (λ j. RowPassed k from.method.0 j (row_after from.method.0 from.index c.args.change.now)) _ _ _ c.loop-number.number (sym c.in_default.ensures) c.loop-number.invariant
 
 pub returns : goal.returns
 returns c =
     let k = c.args.known.now in
     let from = c.args.from in
-    successors_end k.app from.method.0 from.index c.told.ensures.app c.requires.source.spot.index k (λ j. RowPassed k from.method.0 j (row_after from.method.0 from.index c.args.change)) _ _ _ c.loop-number.number (omega (arith, c.loop-number-test.false)) c.loop-number.invariant
+    successors_end k.app from.method.0 from.index c.told.ensures.app c.requires.source.spot.index k (λ j. RowPassed k from.method.0 j (row_after from.method.0 from.index c.args.change.now)) _ _ _ c.loop-number.number (omega (arith, c.loop-number-test.false)) c.loop-number.invariant

@@ -5,11 +5,11 @@ use Rattle.tag_flow.proofs.visiting.go_on.Goals as goal
 
 pub returns-then-not-goes_by_itself : goal.returns-then-not-goes_by_itself
 returns-then-not-goes_by_itself c =
-    turn_none _ _ _ (λ leads outside. absurd (goes_not c.args.act _ (c.if-not-goes_by_itself.ensures) leads outside))
+    turn_none _ _ _ (λ leads outside. absurd (goes_not c.args.act.now _ (c.if-not-goes_by_itself.ensures) leads outside))
 
 pub to_successors-requires-clause-leads : goal.to_successors-requires-clause-leads
 to_successors-requires-clause-leads c =
-    λ x j to. (let goes = goes_yes c.args.act _ (c.if-not-goes_by_itself.ensures) in leads_after x c.args.act c.site-site.result c.requires.act goes.0 goes.1 c.site-site.ensures to)
+    λ x j to. (let goes = goes_yes c.args.act.now _ (c.if-not-goes_by_itself.ensures) in leads_after x c.args.act.now c.site-site.result c.requires.act goes.0 goes.1 c.site-site.ensures to)
 
 pub returns : goal.returns
 returns c =

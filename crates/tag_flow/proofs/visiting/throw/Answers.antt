@@ -10,7 +10,7 @@ returns-then-not-can_throw c =
 
 pub to_handlers-requires-clause-leads : goal.to_handlers-requires-clause-leads
 to_handlers-requires-clause-leads c =
-    λ x j to. leads_thrown x c.args.act c.requires.act (sym c.if-not-can_throw.ensures) to
+    λ x j to. leads_thrown x c.args.act.now c.requires.act (sym c.if-not-can_throw.ensures) to
 
 pub returns : goal.returns
 returns c =
