@@ -42,14 +42,14 @@ fn enter_cell(
     known: &Known,
     state: &mut State,
     from: Spot,
-    handing: Handing,
+    handing: &Handing,
     to: Spot,
     register: usize,
 ) -> bool
     requires source { IsSource known.now state.old from }
-    requires enters { Enters known.now from handing to }
+    requires enters { Enters known.now from handing.now to }
     requires register { register < to.width }
-    ensures { Turn known.now (CellUnder known.now to.method.0 0 (entering_row known.now from.method.0 from.index to.method.0 handing.by handing.args) register) state.old state.new result }
+    ensures { Turn known.now (CellUnder known.now to.method.0 0 (entering_row known.now from.method.0 from.index to.method.0 handing.now.by handing.now.args) register) state.old state.new result }
 {
     known.told();
     let method = known.method(to.method);
@@ -79,10 +79,10 @@ fn first_open(known: &Known, state: &State, to: Spot) -> usize
     0
 }
 
-fn enter_cells(known: &Known, state: &mut State, from: Spot, handing: Handing, to: Spot) -> bool
+fn enter_cells(known: &Known, state: &mut State, from: Spot, handing: &Handing, to: Spot) -> bool
     requires source { IsSource known.now state.old from }
-    requires enters { Enters known.now from handing to }
-    ensures { Turn known.now (RowPassed known.now to.method.0 0 (entering_row known.now from.method.0 from.index to.method.0 handing.by handing.args)) state.old state.new result }
+    requires enters { Enters known.now from handing.now to }
+    ensures { Turn known.now (RowPassed known.now to.method.0 0 (entering_row known.now from.method.0 from.index to.method.0 handing.now.by handing.now.args)) state.old state.new result }
 {
     let mut changed = false;
     let first = first_open(known, state, to);
@@ -92,10 +92,10 @@ fn enter_cells(known: &Known, state: &mut State, from: Spot, handing: Handing, t
     changed
 }
 
-fn enter_row(known: &Known, state: &mut State, from: Spot, handing: Handing, to: Spot) -> bool
+fn enter_row(known: &Known, state: &mut State, from: Spot, handing: &Handing, to: Spot) -> bool
     requires source { IsSource known.now state.old from }
-    requires enters { Enters known.now from handing to }
-    ensures { Turn known.now (RowPassed known.now to.method.0 0 (entering_row known.now from.method.0 from.index to.method.0 handing.by handing.args)) state.old state.new result }
+    requires enters { Enters known.now from handing.now to }
+    ensures { Turn known.now (RowPassed known.now to.method.0 0 (entering_row known.now from.method.0 from.index to.method.0 handing.now.by handing.now.args)) state.old state.new result }
 {
     let changed = enter_cells(known, state, from, handing, to);
     state.note(to, changed);
@@ -116,7 +116,7 @@ fn enter(known: &Known, state: &mut State, from: Spot, act: &Act, callee: Method
         return false;
     }
     let to = known.spot(callee, 0);
-    enter_row(known, state, from, handing, to)
+    enter_row(known, state, from, &handing, to)
 }
 
 // ---- back from a callee

@@ -14,4 +14,4 @@ join-requires-clause-tag c =
 pub returns : goal.returns
 returns c =
     let is = entering_is _ _ c.requires.source.state _ _ _ _ _ _ _ _ c.method-method.ensures.is (rw c.row.ensures at c.called_tag-tag.ensures) in
-    enter_turn _ _ _ _ _ c.args.handing _ _ _ c.requires.source c.requires.enters c.requires.register is (entering_fits _ _ c.requires.source.state _ _ _ _ _ _ _ is) c.join.ensures.joins c.join.ensures.answers
+    enter_turn _ _ _ _ _ c.args.handing.now _ _ _ c.requires.source c.requires.enters c.requires.register is (entering_fits _ _ c.requires.source.state _ _ _ _ _ _ _ is) c.join.ensures.joins c.join.ensures.answers
