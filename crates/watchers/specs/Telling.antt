@@ -1,6 +1,6 @@
 -- What telling leaves of a watcher, and how many watchers of a list were told less than all.
-use Rattle.std.specs.Prelude.{◌≡◌, ◌≤◌, ◌<◌, ◌+◌, ◌-◌, ◌^◌, ◌++◌, ◌==◌, ◌&&◌, ℕ, zero, suc, Bool, true, false, not, nat_lt, min, List, length, take, Option, None, Some, Result, OnOk, OnErr, IsErrOf, slice_get, if◌then◌else◌}
-use Rattle.std.specs.List.{list_any}
+use Rattle.std.specs.Prelude.{◌≡◌, ◌≤◌, ◌<◌, ◌+◌, ◌-◌, ◌^◌, ◌++◌, ◌==◌, ◌&&◌, ℕ, zero, suc, Bool, true, false, nat_lt, min, List, length, take, Option, None, Some, Result, OnOk, OnErr, IsErrOf}
+use Rattle.std.specs.List.{list_any, slice_get}
 use Rattle.ns_base.specs.declared.answers.Event.{Event}
 use Rattle.ns_base.specs.declared.outside.Untold.{Untold}
 use Rattle.ns_base.specs.declared.outside.Untold.TheVariants.{Failed}
@@ -11,6 +11,9 @@ pub record Seen : Type 0 where
   pub kind : ℕ
   pub told : List Event
   pub faults : ℕ
+
+abbrev pub seen : ℕ → List Event → ℕ → Seen
+seen kind told faults = record { kind = kind; told = told; faults = faults }
 
 -- it was told all the events, in order, and nothing more
 abbrev pub ToldAll : List Event → Seen → Seen → Type 0
@@ -24,7 +27,7 @@ ToldFront all before now = (n : ℕ) × (n ≤ length all) × (now.told ≡ befo
 abbrev pub ToldPart : List Event → Seen → Seen → Type 0
 ToldPart all before now = (n : ℕ) × (n < length all) × (now.told ≡ before.told ++ take n all)
 
--- events were told to one watcher with this answer
+-- events were told to one watcher, with this answer
 pub record IsTelling (all : List Event) (before now : Seen) (result : Result (Unit {0}) Untold) : Type 0 where
   pub sort : now.kind ≡ before.kind
   pub later : before.faults ≤ now.faults
@@ -32,37 +35,48 @@ pub record IsTelling (all : List Event) (before now : Seen) (result : Result (Un
   pub part : OnErr result (ToldPart all before now)
   pub cause : IsErrOf result Failed → Rose before.faults now.faults
 
--- its kind is among these
+-- the kind is among these
 abbrev pub is_chosen : List ℕ → ℕ → Bool
 is_chosen kinds kind = list_any (λ k. k == kind) kinds
 
--- it is chosen, and was told less than all the events
-abbrev pub is_short : List ℕ → List Event → Seen → Seen → Bool
-is_short kinds all before now = is_chosen kinds before.kind && nat_lt (length now.told) (length before.told + length all)
+-- it was told less than all the events
+abbrev pub is_short : List Event → Seen → Seen → Bool
+is_short all before now = nat_lt (length now.told) (length before.told + length all)
 
--- it is chosen, was told less than all the events, and its count of faults did not rise
-abbrev pub is_starved : List ℕ → List Event → Seen → Seen → Bool
-is_starved kinds all before now = is_short kinds all before now && nat_lt now.faults (min (before.faults + 1) (2 ^ 64 - 1))
+-- its count of faults did not rise
+abbrev pub is_faultless : Seen → Seen → Bool
+is_faultless before now = nat_lt now.faults (min (before.faults + 1) (2 ^ 64 - 1))
 
--- a watcher of a list of which those of some kinds were told
+-- what telling those of some kinds leaves of a watcher
 pub record IsTold (kinds : List ℕ) (all : List Event) (before now : Seen) : Type 0 where
   pub sort : now.kind ≡ before.kind
   pub later : before.faults ≤ now.faults
   pub front : ToldFront all before now
-  pub whole : is_chosen kinds before.kind ≡ true → is_short kinds all before now ≡ false → ToldAll all before now
-  pub other : is_chosen kinds before.kind ≡ false → now ≡ before
+  pub whole : is_chosen kinds before.kind ≡ true → is_short all before now ≡ false → ToldAll all before now
+
+-- it is of these kinds, and was told less than all the events
+abbrev pub misses : List ℕ → List Event → Seen → Seen → Bool
+misses kinds all before now = is_chosen kinds before.kind && is_short all before now
+
+-- the same, and its count of faults did not rise
+abbrev pub misses_faultless : List ℕ → List Event → Seen → Seen → Bool
+misses_faultless kinds all before now = misses kinds all before now && is_faultless before now
+
+abbrev pub one_if : Bool → ℕ
+one_if false = 0
+one_if true = 1
 
 -- at how many of the places below n the test holds
 abbrev pub count_below : (ℕ → Bool) → ℕ → ℕ
 count_below test zero = 0
-count_below test (suc n) = count_below test n + (if test n then 1 else 0)
+count_below test (suc n) = count_below test n + one_if (test n)
 
--- a test of two watchers, at one place of two lists; the place is none where one of the lists ends before
-abbrev pub test_both : (Seen → Seen → Bool) → Option Seen → Option Seen → Bool
-test_both test None y = false
-test_both test (Some x) None = false
-test_both test (Some x) (Some y) = test x y
+-- a test of what two lists have at one place, false where one has nothing there
+abbrev pub test_at : (Seen → Seen → Bool) → Option Seen → Option Seen → Bool
+test_at test None y = false
+test_at test (Some x) None = false
+test_at test (Some x) (Some y) = test x y
 
--- at how many places of a list of watchers, seen before and now, the test holds
+-- of how many watchers of a list, seen before and now, the test holds
 abbrev pub number_of : (Seen → Seen → Bool) → List Seen → List Seen → ℕ
-number_of test before now = count_below (λ i. test_both test (slice_get before i) (slice_get now i)) (length before)
+number_of test before now = count_below (λ i. test_at test (slice_get before i) (slice_get now i)) (length before)

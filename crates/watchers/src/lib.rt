@@ -17,4 +17,4 @@ mod writing;
 
 pub use counts::CountWatcher;
 pub use json::JsonWatcher;
-pub use telling::{Told, tell_one};
+pub use telling::{Told, tell_all, tell_one};
