@@ -1,5 +1,5 @@
 -- Pieces of a text, grouped to the right or to the left.
-use Rattle.std.proofs.Common.{◌≡◌, ℕ, List, ◌++◌, ap, sym, ◌∙◌, append_assoc, Result, Ok, Err, IfOk}
+use Rattle.std.proofs.Common.{◌≡◌, ℕ, List, ◌++◌, sym, ◌∙◌, append_assoc, Result, Ok, Err, IfOk}
 
 pub left_3 : (a b c : List ℕ) → a ++ (b ++ c) ≡ a ++ b ++ c
 left_3 a b c = sym (append_assoc a b c)

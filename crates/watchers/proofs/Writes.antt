@@ -1,5 +1,5 @@
 -- What writes one after another make together.
-use Rattle.std.proofs.Common.{◌≡◌, ℕ, ◌+◌, List, [], ◌++◌, take, drop, Option, Some, sym, ap, ◌∙◌, append_assoc, append-nil}
+use Rattle.std.proofs.Common.{ℕ, ◌+◌, List, [], ◌++◌, take, drop, Option, Some, sym, ap, ◌∙◌, append_assoc, append-nil}
 use Rattle.std.proofs.Math.Seq.{take-add}
 use Rattle.watchers.specs.Writing.{WroteAll}
 

@@ -1,5 +1,5 @@
 //! Telling events to watchers.
-ghost use Rattle.std.specs.Prelude.{◌≡◌, ◌≤◌, ◌+◌, ◌==◌, ℕ, List, Some, true, false, length, map, vec_len, slice_get, is_err, IfErr, OnOk, OnErr, IsErrOf, if◌then◌else◌};
+ghost use Rattle.std.specs.Prelude.{◌≡◌, ◌≤◌, ◌<◌, ◌+◌, ◌++◌, ◌==◌, ℕ, List, Some, true, false, length, map, vec_len, slice_get, is_err, IfErr, OnOk, OnErr, IsErrOf, if◌then◌else◌};
 ghost use Rattle.ns_base.specs.Outside.{Rose, told_after};
 ghost use Rattle.watchers.specs.Telling.{IsTelling, IsTold, seen, is_chosen, misses, misses_faultless, number_of, one_if};
 
@@ -34,6 +34,17 @@ pub fn tell_all(watchers: &mut Vec<Box<dyn Watcher>>, kinds: &[u8], all: &[Event
     ensures starved { number_of (misses_faultless kinds.now all.now)
         (map (λ w. seen (sort w) (events w) (faults w)) watchers.old.items)
         (map (λ w. seen (sort w) (events w) (faults w)) watchers.new.items) ≤ result.starved }
+
+    // so, of one watcher
+    ensures whole { result.failed ≡ 0 → result.starved ≡ 0 → (i : ℕ) (old new : _)
+        → slice_get watchers.old.items i ≡ Some old → slice_get watchers.new.items i ≡ Some new
+        → is_chosen kinds.now (sort old) ≡ true → events new ≡ events old ++ all.now }
+    ensures faultless { result.starved ≡ 0 → (i : ℕ) (old new : _)
+        → slice_get watchers.old.items i ≡ Some old → slice_get watchers.new.items i ≡ Some new
+        → is_chosen kinds.now (sort old) ≡ true → ¬ Rose (faults old) (faults new) → events new ≡ events old ++ all.now }
+    ensures cause { 0 < result.failed → (i : ℕ) × (old : _) × (new : _)
+        × (slice_get watchers.old.items i ≡ Some old) × (slice_get watchers.new.items i ≡ Some new)
+        × (is_chosen kinds.now (sort old) ≡ true) × Rose (faults old) (faults new) }
 {
     let mut told = Told::NONE;
     for i in 0..watchers.len() {
@@ -63,8 +74,14 @@ fn tell_chosen(watcher: &mut Box<dyn Watcher>, kinds: &[u8], all: &[Event]) -> T
     }
     match tell_one(watcher, all) {
         Ok(()) => Told::NONE,
-        Err(Untold::Failed) => Told { failed: 1, starved: 0 },
-        Err(Untold::Memory) => Told { failed: 0, starved: 1 },
+        Err(Untold::Failed) => Told {
+            failed: 1,
+            starved: 0,
+        },
+        Err(Untold::Memory) => Told {
+            failed: 0,
+            starved: 1,
+        },
     }
 }
 

@@ -1,6 +1,6 @@
-use Rattle.std.proofs.Common.{◌≡◌, ◌≤◌, ◌<◌, ◌+◌, arith, length}
+use Rattle.std.proofs.Common.{◌≤◌, ◌+◌, arith}
 use Rattle.std.proofs.lemmas.Option.{slice_get_read, slice_get_within}
-use Rattle.watchers.proofs.Numbers.{Progress-step, Progress-le}
+use Rattle.watchers.proofs.Numbers.{Progress-step, Progress-le, Progress-whole, Progress-faultless, Progress-cause}
 use Rattle.watchers.proofs.telling.tell_all.Goals as goal
 
 pub loop-i-preserved : goal.loop-i-preserved
@@ -23,3 +23,16 @@ pub returns-clause-each : goal.returns-clause-each
 returns-clause-each g c = λ i old new at_first at_now.
     let within = slice_get_within c.args.watchers.now.items i old at_first in
     c.loop-i.invariant.each i old new (omega (arith, within)) at_first at_now
+
+pub returns-clause-whole : goal.returns-clause-whole
+returns-clause-whole g c = λ no_failure no_want i old new at_first at_now.
+    let within = slice_get_within c.args.watchers.now.items i old at_first in
+    Progress-whole _ _ _ _ _ _ _ _ c.loop-i.invariant no_failure no_want i old new (omega (arith, within)) at_first at_now
+
+pub returns-clause-faultless : goal.returns-clause-faultless
+returns-clause-faultless g c = λ no_want i old new at_first at_now.
+    let within = slice_get_within c.args.watchers.now.items i old at_first in
+    Progress-faultless _ _ _ _ _ _ _ _ c.loop-i.invariant no_want i old new (omega (arith, within)) at_first at_now
+
+pub returns-clause-cause : goal.returns-clause-cause
+returns-clause-cause g c = Progress-cause _ _ _ _ _ _ _ _ c.loop-i.invariant
