@@ -12,6 +12,7 @@ pub record Seen : Type 0 where
   pub told : List Event
   pub faults : ℕ
 
+-- its kind, the events it was told and its count of faults, as the members of the trait tell them
 abbrev pub seen : ℕ → List Event → ℕ → Seen
 seen kind told faults = record { kind = kind; told = told; faults = faults }
 
@@ -62,6 +63,7 @@ misses kinds all before now = is_chosen kinds before.kind && is_short all before
 abbrev pub misses_faultless : List ℕ → List Event → Seen → Seen → Bool
 misses_faultless kinds all before now = misses kinds all before now && is_faultless before now
 
+-- one where the test holds, else none
 abbrev pub one_if : Bool → ℕ
 one_if false = 0
 one_if true = 1
