@@ -2,3 +2,4 @@ pub mod Counts
 pub mod Files
 pub mod Shelves
 pub mod Sinks
+pub mod Watchers
