@@ -1,5 +1,5 @@
 -- What a call leaves that sees names and cuts them off again where it refuses.
-use Rattle.std.proofs.Common.{◌≡◌, ℕ, true, false, Result, Ok, Err, IfOk, List, [], refl, subst, sym, ap, ◌∙◌}
+use Rattle.std.proofs.Common.{◌≡◌, ℕ, Result, Ok, Err, IfOk, List, [], subst, sym, ap, ◌∙◌}
 use Rattle.build_tables.specs.declared.fault.BuildFault.{BuildFault}
 use Rattle.build_tables.specs.declared.fault.BuildFault.TheVariants.{NoClass, TooMany, Refused, Memory}
 use Rattle.build_tables.specs.Tables.{IdRows, Seen, mark_of, cut_at, has_room, HasGrown, IsSettled, IsRef, AreSeen}

@@ -1,6 +1,6 @@
 -- The id tables of a file that is built. A name is seen in a table: it has the number of its row, which goes
 -- last where it is new. So rows are numbered by first sight.
-use Rattle.std.specs.Prelude.{ℕ, ◌≡◌, Bool, true, false, ◌&&◌, ◌||◌, ◌==◌, nat_le, List, [], ◌∷◌, ◌++◌, length, take, bytes_eq, IsTrue, Result, Ok, Err}
+use Rattle.std.specs.Prelude.{ℕ, ◌≡◌, Bool, true, false, ◌&&◌, ◌||◌, ◌==◌, nat_le, List, [], ◌∷◌, ◌++◌, length, take, bytes_eq, Result, Ok, Err}
 use Rattle.std.specs.List.{position_or_len}
 use Rattle.indexmap.specs.IndexSet.{insert_key}
 use Rattle.build_tables.specs.declared.fault.BuildFault.{BuildFault}

@@ -12,6 +12,8 @@ mod fault;
 mod rows;
 mod spelling;
 mod tables;
+#[cfg(test)]
+mod tests;
 
 pub use fault::BuildFault;
 pub use tables::{Mark, Tables};

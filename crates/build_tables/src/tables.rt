@@ -11,7 +11,7 @@ use std::marker::Model;
 
 const MOST_ROWS: usize = 65535;
 
-/// The tables. Rows are those of `dex_layout::Plain`.
+/// The tables: the MUTF-8 bytes of each string, and the numbers of each other row.
 #[derive(Drop)]
 pub struct Tables {
     pub strings: Texts,

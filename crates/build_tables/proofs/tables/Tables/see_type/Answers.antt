@@ -1,6 +1,5 @@
-use Rattle.std.proofs.Common.{ℕ, [], ◌∷◌, List, map, string_bytes, sym, ap, ◌∙◌}
-use Rattle.build_tables.specs.Spelling.{shorty_of}
-use Rattle.build_tables.specs.Tables.{Seen, ◌>>=◌, string_seen, type_row_seen, proto_row_seen, field_row_seen, method_row_seen, type_seen, types_seen, proto_seen, field_of_seen, method_of_seen, field_seen, method_seen}
+use Rattle.std.proofs.Common.{ℕ, [], ◌∷◌, ap, ◌∙◌}
+use Rattle.build_tables.specs.Tables.{Seen, ◌>>=◌, type_row_seen, type_seen}
 use Rattle.build_tables.proofs.tables.Tables.see_type.Goals as goal
 
 pub returns-clause-seen : goal.returns-clause-seen
