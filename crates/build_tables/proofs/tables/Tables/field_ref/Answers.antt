@@ -1,0 +1,5 @@
+use Rattle.build_tables.proofs.Settled.{settled_ref}
+use Rattle.build_tables.proofs.tables.Tables.field_ref.Goals as goal
+
+pub returns : goal.returns
+returns c = settled_ref _ _ _ _ _ _ _ c.mark-mark.ensures c.see_field-seen.ensures.seen c.see_field-seen.ensures.grown c.settle.ensures
