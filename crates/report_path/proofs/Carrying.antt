@@ -45,16 +45,16 @@ end_returns b m e s is = rw (is.thrown, is.method, is.entry, is.exit) refl
 is_return : (b : BodyPath) (m e s : ℕ) → end_of b ≡ Ret m e s → IsReturn b m e s
 is_return b m e s is = (let o = returned_by b.thrown b.method b.entry b.exit m e s (sym is) in record { thrown = o.thrown_is; method = sym o.method; entry = sym o.entry; exit = sym o.exit })
 
-pub shown_none : (bodies : List BodyPath) (body : Option ℕ) (f : Fact) → body ≡ None → IsTrue false ↔ Shows bodies body f
+pub shown_none : (bodies : List BodyPath) (body : Option ℕ) (f : Fact) → body ≡ None → IsTrue false ↔ Shows (cited_in bodies) body f
 shown_none bodies body f none = (λ t. absurd (cc), λ h. absurd (let is = h.holds in let at = ap (cited_in bodies) (sym none) ∙ h.at in cc))
 
-pub shown_past : (bodies : List BodyPath) (body : Option ℕ) (j : ℕ) (f : Fact) → body ≡ Some j → length bodies ≤ j → IsTrue false ↔ Shows bodies body f
+pub shown_past : (bodies : List BodyPath) (body : Option ℕ) (j : ℕ) (f : Fact) → body ≡ Some j → length bodies ≤ j → IsTrue false ↔ Shows (cited_in bodies) body f
 shown_past bodies body j f some past = (
   λ t. absurd (cc),
   λ h. absurd (let at = ap (option_map (λ (b : BodyPath). end_of b ∷ [])) (sym (slice_get_past bodies j past)) ∙ ap (cited_in bodies) (sym some) ∙ h.at in cc),
 )
 
-pub shown_by : (bodies : List BodyPath) (body : Option ℕ) (j : ℕ) (b : BodyPath) (m e s : ℕ) (r : Bool) → body ≡ Some j → Some b ≡ slice_get bodies j → (IsTrue r ↔ IsReturn b m e s) → IsTrue r ↔ Shows bodies body (Ret m e s)
+pub shown_by : (bodies : List BodyPath) (body : Option ℕ) (j : ℕ) (b : BodyPath) (m e s : ℕ) (r : Bool) → body ≡ Some j → Some b ≡ slice_get bodies j → (IsTrue r ↔ IsReturn b m e s) → IsTrue r ↔ Shows (cited_in bodies) body (Ret m e s)
 shown_by bodies body j b m e s r some there test =
     let ends : cited_in bodies body ≡ Some (end_of b ∷ []) = ap (cited_in bodies) some ∙ ap (option_map (λ (x : BodyPath). end_of x ∷ [])) (sym there) in (
       λ on. record { value = end_of b ∷ []; at = ends; holds = ap (λ f. f ∷ []) (end_returns b m e s (test.0 on)) },
@@ -78,7 +78,7 @@ module _ (x : SubjectParts) (l c : ℕ) (edge : Edge) (s t : ℕ) where
       λ h. (let z = only_outside h.holds (sym none) in test.1 (uncited bodies body (h.at ∙ ap Some z.0), z.1 ∙ sym entry)),
     )
 
-    pub carried_method : (m : ℕ) → Some m ≡ callback_at x.list c edge.callback → (IsTrue r ↔ Shows bodies body (Ret m e t)) → IsTrue r ↔ Has (cited_in bodies body) (λ ends. Carries x l c edge s t ends)
+    pub carried_method : (m : ℕ) → Some m ≡ callback_at x.list c edge.callback → (IsTrue r ↔ Shows (cited_in bodies) body (Ret m e t)) → IsTrue r ↔ Has (cited_in bodies body) (λ ends. Carries x l c edge s t ends)
     carried_method m some test =
         let ret : Ret m e t ∷ [] ≡ Ret m (entered x l c edge s) t ∷ [] = ap (λ k. Ret m k t ∷ []) entry in (
           λ on. (let z = test.0 on in record { value = z.value; at = z.at; holds = subst (λ ends. Carries x l c edge s t ends) (sym (z.holds ∙ ret)) (by_method m (sym some)) }),

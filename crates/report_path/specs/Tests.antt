@@ -95,9 +95,18 @@ pub record ByCall (t : Spot) (b : BodyPath) (goal : Goal) (s : ℕ) : Type 0 whe
   pub exit : b.exit ≡ s
   pub comes : ComesFrom t b.thrown goal
 
--- ---- the body that is cited shows the fact
-abbrev pub Shows : List BodyPath → (body : Option ℕ) → Fact → Type 0
-Shows bodies body f = Has (cited_in bodies body) (λ ends. ends ≡ f ∷ [])
+-- ---- lock field l of a subject, and the bodies of a report
+pub record Given : Type 0 where
+  pub subject : SubjectParts
+  pub lock : ℕ
+  pub bodies : List BodyPath
+
+abbrev pub case_in : Given → Case
+case_in t = record { subject = t.subject; lock = t.lock; ends = cited_in t.bodies }
+
+-- ---- what is cited shows the fact
+abbrev pub Shows : (ends : Option ℕ → Option (List Fact)) → (body : Option ℕ) → Fact → Type 0
+Shows ends body f = Has (ends body) (λ facts. facts ≡ f ∷ [])
 
 pub record IsReturn (b : BodyPath) (m e s : ℕ) : Type 0 where
   pub thrown : b.thrown ≡ false

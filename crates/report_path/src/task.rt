@@ -6,7 +6,7 @@ ghost use Rattle.flow_model.specs.Rules as rules;
 ghost use Rattle.flow_model.specs.Rules.{Carries};
 ghost use Rattle.report_path.specs.Lookups.{Has};
 ghost use Rattle.report_path.specs.Paths.{cited_in};
-ghost use Rattle.report_path.specs.Tests.{IsReturn, Shows};
+ghost use Rattle.report_path.specs.Tests.{IsReturn, Shows, case_in};
 ghost use Rattle.report_path.specs.Views.{Moves};
 
 use crate::report::{BodyPath, ViewStep};
@@ -27,9 +27,9 @@ pub struct Task<'a> {
 }
 
 impl<'a> Model for Task<'a> {
-    ghost use Rattle.report_path.specs.Views.{Case};
+    ghost use Rattle.report_path.specs.Tests.{Given};
 
-    ghost Value = { Case };
+    ghost Value = { Given };
 
     ghost view = { λ t. record { subject = t.subject.now; lock = t.lock.0; bodies = t.bodies.now } };
 }
@@ -106,7 +106,7 @@ impl<'a> Task<'a> {
 
     // Whether the cited body shows that a method returns.
     fn shows(&self, body: Option<u32>, method: u32, entry: u8, exit: u8) -> bool
-        ensures { IsTrue result ↔ Shows self.now.bodies body (Ret method entry exit) }
+        ensures { IsTrue result ↔ Shows (cited_in self.now.bodies) body (Ret method entry exit) }
     {
         let Some(number) = body else {
             return false;
@@ -130,7 +130,7 @@ impl<'a> Task<'a> {
 
     /// Whether an edge leads on from a view to a status, by the body that is cited.
     pub fn moves(&self, view: ViewStep, edge: Edge, body: Option<u32>, status: u8) -> bool
-        ensures { IsTrue result ↔ Moves self.now view edge body status }
+        ensures { IsTrue result ↔ Moves (case_in self.now) view edge body status }
     {
         if edge.from != view.state {
             return false;

@@ -1,5 +1,6 @@
 //! The views of a report: whether each follows from earlier ones by an edge.
 ghost use Rattle.std.specs.Prelude.{◌≡◌, ◌↔◌, IsTrue, slice_get};
+ghost use Rattle.report_path.specs.Tests.{case_in};
 ghost use Rattle.report_path.specs.Views.{IsAfter, IsBeside, IsOther, IsOwn, IsStart, IsView};
 
 use crate::report::{By, ViewStep};
@@ -22,13 +23,13 @@ pub fn view_at(views: &[ViewStep], number: u32) -> Option<ViewStep>
 }
 
 fn is_start(task: &Task, view: ViewStep) -> bool
-    ensures { IsTrue result ↔ IsStart task.now view }
+    ensures { IsTrue result ↔ IsStart (case_in task.now) view }
 {
     (view.component as usize) < task.component_count() && view.state == 0 && view.status == 0
 }
 
 fn is_after(task: &Task, first: ViewStep, view: ViewStep, edge: Edge, body: Option<u32>) -> bool
-    ensures { IsTrue result ↔ IsAfter task.now first view body edge }
+    ensures { IsTrue result ↔ IsAfter (case_in task.now) first view body edge }
 {
     if first.component != view.component {
         return false;
@@ -40,7 +41,7 @@ fn is_after(task: &Task, first: ViewStep, view: ViewStep, edge: Edge, body: Opti
 }
 
 fn is_own(task: &Task, before: &[ViewStep], view: ViewStep, by: Move) -> bool
-    ensures { IsTrue result ↔ IsOwn task.now before.now view by.view by.edge by.body }
+    ensures { IsTrue result ↔ IsOwn (case_in task.now) before.now view by.view by.edge by.body }
 {
     let Some(first) = view_at(before, by.view) else {
         return false;
@@ -59,7 +60,7 @@ fn is_beside(
     edge: Edge,
     body: Option<u32>,
 ) -> bool
-    ensures { IsTrue result ↔ IsBeside task.now first mover view body edge }
+    ensures { IsTrue result ↔ IsBeside (case_in task.now) first mover view body edge }
 {
     if first.component != view.component {
         return false;
@@ -77,7 +78,7 @@ fn is_beside(
 }
 
 fn is_other(task: &Task, before: &[ViewStep], view: ViewStep, first: u32, by: Move) -> bool
-    ensures { IsTrue result ↔ IsOther task.now before.now view first by.view by.edge by.body }
+    ensures { IsTrue result ↔ IsOther (case_in task.now) before.now view first by.view by.edge by.body }
 {
     let Some(first) = view_at(before, first) else {
         return false;
@@ -93,7 +94,7 @@ fn is_other(task: &Task, before: &[ViewStep], view: ViewStep, first: u32, by: Mo
 
 /// Whether a view is valid, which may cite those before it.
 pub fn is_view(task: &Task, before: &[ViewStep], view: ViewStep) -> bool
-    ensures { IsTrue result ↔ IsView task.now before.now view }
+    ensures { IsTrue result ↔ IsView (case_in task.now) before.now view }
 {
     match view.by {
         By::Start => is_start(task, view),
