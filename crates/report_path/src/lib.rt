@@ -21,5 +21,6 @@ mod task;
 mod views;
 
 pub use checking::check_report;
+pub use goal::Goal;
 pub use laws::report_law;
 pub use report::{BodyPath, By, Report, Step, ViewStep};

@@ -1,0 +1,8 @@
+//! A log of the facts that the flow rules derive for one lock field: each with its reason, which cites earlier lines.
+//!
+//! - `log` has what a log is made of.
+#![tactic(auto)]
+
+mod log;
+
+pub use log::{FactLog, Line, Why};
