@@ -1,8 +1,9 @@
 //! A log of the facts that the flow rules derive for one lock field: each with its reason, which cites earlier lines.
 //!
-//! - `log` has what a log is made of.
+//! - `log` has what a log is made of; `lines` tests a line.
 #![tactic(auto)]
 
+mod lines;
 mod log;
 
 pub use log::{FactLog, Line, Why};

@@ -12,7 +12,7 @@ use Rattle.flow_model.specs.Status.{reset, reset_column}
 use Rattle.report_path.specs.declared.report.BodyPath.{BodyPath}
 use Rattle.report_path.specs.Lookups.{Has}
 use Rattle.report_path.specs.Paths.{cited_in, end_of}
-use Rattle.report_path.specs.Tests.{IsReturn, Shows}
+use Rattle.report_path.specs.Tests.{Given, IsReturn, Shows}
 use Rattle.report_path.proofs.Instances.{returned_by}
 
 -- ---- out of range
@@ -84,3 +84,14 @@ module _ (x : SubjectParts) (l c : ℕ) (edge : Edge) (s t : ℕ) where
           λ on. (let z = test.0 on in record { value = z.value; at = z.at; holds = subst (λ ends. Carries x l c edge s t ends) (sym (z.holds ∙ ret)) (by_method m (sym some)) }),
           λ h. test.1 (record { value = h.value; at = h.at; holds = only_method m h.holds (sym some) ∙ sym ret }),
         )
+
+-- ---- the same, where a task is read by its parts
+module _ (raw t : Given) (is : raw ≡ t) (c : ℕ) (edge : Edge) (s u : ℕ) (body : Option ℕ) (e : ℕ) (r : Bool) (entry : e ≡ entered raw.subject raw.lock c edge s) where
+  abbrev Carried : Given → Type 0
+  Carried t = IsTrue r ↔ Has (cited_in t.bodies body) (λ ends. Carries t.subject t.lock c edge s u ends)
+
+  pub task_outside : None ≡ callback_at raw.subject.list c edge.callback → (IsTrue r ↔ ((body ≡ None) × (u ≡ e))) → Carried t
+  task_outside none test = subst Carried is (carried_outside raw.subject raw.lock c edge s u raw.bodies body e r entry none test)
+
+  pub task_method : (m : ℕ) → Some m ≡ callback_at raw.subject.list c edge.callback → (IsTrue r ↔ Shows (cited_in t.bodies) body (Ret m e u)) → Carried t
+  task_method m some = subst (λ (t : Given). (IsTrue r ↔ Shows (cited_in t.bodies) body (Ret m e u)) → Carried t) is (λ test. carried_method raw.subject raw.lock c edge s u raw.bodies body e r entry m some test)

@@ -8,7 +8,7 @@ ghost use Rattle.report_path.specs.Tests.{EndsBy, IsEnd, IsUnmet, case_in};
 
 use crate::report::{Report, ViewStep};
 use crate::task::Task;
-use crate::views::view_at;
+use crate::views::{Carrier, view_at};
 use app_model::{Edge, Subject};
 use flow_model::has_status;
 use ns_base::{ComponentNo, LockNo};
