@@ -63,11 +63,11 @@ shown_by bodies body j b m e s r some there test =
 
 -- ---- an edge that carries
 module _ (x : SubjectParts) (l c : ℕ) (edge : Edge) (s t : ℕ) where
-  only_outside : {ends : List Fact} → Carries x l c edge s t ends → callback_at x.list c edge.callback ≡ None → (ends ≡ []) × (t ≡ entered x l c edge s)
+  pub only_outside : {ends : List Fact} → Carries x l c edge s t ends → callback_at x.list c edge.callback ≡ None → (ends ≡ []) × (t ≡ entered x l c edge s)
   only_outside (outside absent eq) none = (refl, eq)
   only_outside (by_method m is) none = absurd (cc)
 
-  only_method : (m : ℕ) {ends : List Fact} → Carries x l c edge s t ends → callback_at x.list c edge.callback ≡ Some m → ends ≡ Ret m (entered x l c edge s) t ∷ []
+  pub only_method : (m : ℕ) {ends : List Fact} → Carries x l c edge s t ends → callback_at x.list c edge.callback ≡ Some m → ends ≡ Ret m (entered x l c edge s) t ∷ []
   only_method m (outside absent eq) some = absurd (cc)
   only_method m (by_method n is) some = (let same : n ≡ m = cc in ap (λ k. Ret k (entered x l c edge s) t ∷ []) same)
 
