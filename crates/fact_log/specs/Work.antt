@@ -1,5 +1,5 @@
 -- A log that is being made, and what is tested of it.
-use Rattle.std.specs.Prelude.{ℕ, ◌≡◌, ◌<◌, ◌↔◌, Bool, true, false, List, Option, Some, None}
+use Rattle.std.specs.Prelude.{ℕ, ◌≡◌, ◌<◌, ◌≤◌, ◌↔◌, Bool, true, false, List, length, Option, Some, None}
 use Rattle.app_model.specs.Facts.{Fact}
 use Rattle.app_model.specs.Subject.{SubjectParts, IsSubject, slot_count}
 use Rattle.report_path.specs.declared.goal.Goal.{Goal}
@@ -37,6 +37,8 @@ abbrev pub case_in : WorkParts → Case
 case_in w = case_of_lines w.subject w.lock w.lines
 
 pub record IsWork (w : WorkParts) : Type 0 where
+  pub few_lines : length w.lines ≤ 4294967295
+  pub few_views : length w.views ≤ 4294967295
   pub sound : IsSubject w.subject
   pub lock : w.lock < slot_count w.subject
   pub places : HasPlaces w.subject w.solution
@@ -88,3 +90,8 @@ moved v first mover edge body = view v.component v.state v.status (moved_by firs
 -- ---- searches
 abbrev pub NoneIs : {A : Type 0} → Option A → Type 0 → Type 0
 NoneIs o P = o ≡ None → P
+
+-- nothing can be added
+pub record NothingNew (w : WorkParts) : Type 0 where
+  pub lines : (x : Line) → ¬ IsNewLine w x
+  pub views : (v : ViewStep) → ¬ IsNewView w v
