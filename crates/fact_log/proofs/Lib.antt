@@ -1,2 +1,4 @@
 pub mod Citing
 pub mod Closed
+pub mod Pushing
+pub mod Ranges

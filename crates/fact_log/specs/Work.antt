@@ -1,14 +1,16 @@
 -- A log that is being made, and what is tested of it.
-use Rattle.std.specs.Prelude.{ℕ, ◌≡◌, ◌<◌, ◌≤◌, ◌↔◌, Bool, true, false, List, length, Option, Some, None}
+use Rattle.std.specs.Prelude.{ℕ, ◌≡◌, ◌<◌, ◌≤◌, ◌⊎◌, ◌↔◌, Bool, true, false, List, length, Option, Some, None}
 use Rattle.app_model.specs.Facts.{Fact}
 use Rattle.app_model.specs.Subject.{SubjectParts, IsSubject, slot_count}
 use Rattle.report_path.specs.declared.goal.Goal.{Goal}
+use Rattle.report_path.specs.declared.goal.Goal.TheVariants.{Before, Returned, Thrown}
 use Rattle.report_path.specs.declared.report.By.{By}
 use Rattle.report_path.specs.declared.report.By.TheVariants.{Outside, Own, Other}
 use Rattle.report_path.specs.declared.report.ViewStep.{ViewStep}
 use Rattle.report_path.specs.Views.{Case, IsView, fact_of}
 use Rattle.report_path.specs.Tests.{fact_at}
-use Rattle.solution.specs.Facts.{Facts, holds, facts_room, HasPlaces}
+use Rattle.solution.specs.Facts.{Facts, holds, facts_room, HasPlaces, SameSize}
+use Rattle.solution.specs.Table.{row_len}
 use Rattle.solution.specs.Words.{has}
 use Rattle.fact_log.specs.declared.log.Line.{Line}
 use Rattle.fact_log.specs.declared.log.Why.{Why}
@@ -95,3 +97,15 @@ NoneIs o P = o ≡ None → P
 pub record NothingNew (w : WorkParts) : Type 0 where
   pub lines : (x : Line) → ¬ IsNewLine w x
   pub views : (v : ViewStep) → ¬ IsNewView w v
+
+-- ---- a fact came to those that are known
+pub record Came (old : Facts) (f : Fact) (new : Facts) : Type 0 where
+  pub only : (g : Fact) → holds new g ≡ true → (holds old g ≡ true) ⊎ (g ≡ f)
+  pub size : SameSize old new
+  pub falls : holds old f ≡ false → facts_room new < facts_room old
+
+-- a method has a place for what leads there
+abbrev pub HasRoom : Facts → Goal → (m : ℕ) → Type 0
+HasRoom t (Before i) m = i < row_len t.code m
+HasRoom t Returned m = m < row_len t.ends 0
+HasRoom t Thrown m = m < row_len t.ends 1
