@@ -1,4 +1,5 @@
 pub mod Citing
 pub mod Closed
+pub mod Growing
 pub mod Pushing
 pub mod Ranges

@@ -48,11 +48,12 @@ module _ (raw w : WorkParts) (same : raw ≡ w) (is : IsWork w) where
   pub no_at : (r : Bool) (m i : ℕ) → (IsTrue r ↔ ((m < length raw.subject.app.methods) × (i < place_count raw.subject m))) → r ≡ false → AreMissing w (λ e s. At m e i s) 0
   no_at r m i test off = none_missing w (λ e s. At m e i s) (λ e s h. (let p = at_place w.subject w.solution is.sound is.places m e i s h in let on = test.1 (rw (← same) at p) in cc))
 
-  pub no_ret : (m : ℕ) → length raw.subject.app.methods ≤ m → AreMissing w (λ e s. Ret m e s) 0
-  no_ret m past = none_missing w (λ e s. Ret m e s) (λ e s h. (let lt = ret_within w.solution m e s h in let len = is.places.rets in let p : length w.subject.app.methods ≤ m = rw same at past in omega arith))
+module _ (w : WorkParts) (is : IsWork w) where
+  pub no_ret : (m : ℕ) → length w.subject.app.methods ≤ m → AreMissing w (λ e s. Ret m e s) 0
+  no_ret m past = none_missing w (λ e s. Ret m e s) (λ e s h. (let lt = ret_within w.solution m e s h in let len = is.places.rets in omega arith))
 
-  pub no_exc : (m : ℕ) → length raw.subject.app.methods ≤ m → AreMissing w (λ e s. Exc m e s) 0
-  no_exc m past = none_missing w (λ e s. Exc m e s) (λ e s h. (let lt = exc_within w.solution m e s h in let len = is.places.excs in let p : length w.subject.app.methods ≤ m = rw same at past in omega arith))
+  pub no_exc : (m : ℕ) → length w.subject.app.methods ≤ m → AreMissing w (λ e s. Exc m e s) 0
+  no_exc m past = none_missing w (λ e s. Exc m e s) (λ e s h. (let lt = exc_within w.solution m e s h in let len = is.places.excs in omega arith))
 
-  pub no_views : (c : ℕ) → length raw.subject.list ≤ c → AreMissing w (λ q s. View c q s) 0
-  no_views c past = none_missing w (λ q s. View c q s) (λ q s h. (let lt = view_within w.solution c q s h in let len = is.places.views in let p : length w.subject.list ≤ c = rw same at past in omega arith))
+  pub no_views : (c : ℕ) → length w.subject.list ≤ c → AreMissing w (λ q s. View c q s) 0
+  no_views c past = none_missing w (λ q s. View c q s) (λ q s h. (let lt = view_within w.solution c q s h in let len = is.places.views in omega arith))

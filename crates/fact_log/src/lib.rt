@@ -1,13 +1,12 @@
 //! A log of the facts that the flow rules derive for one lock field: each with its reason, which cites earlier lines.
 //!
 //! - `log` has what a log is made of; `lines` tests a line.
-//! - `work` has a log that is being made, and `missing` what it lacks; `seek` searches for what may be added.
+//! - `work` has a log that is being made, and `missing` what it lacks.
 #![tactic(auto)]
 
 mod lines;
 mod log;
 mod missing;
-mod seek;
 mod work;
 
 pub use log::{FactLog, Line, Why};

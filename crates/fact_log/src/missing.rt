@@ -88,8 +88,7 @@ impl<'a> Work<'a> {
         ensures { AreMissing self.now (λ e s. Ret method e s) result }
     {
         self.told();
-        let subject = self.subject;
-        if method >= subject.app.method_count() {
+        if method >= self.method_count() {
             return 0;
         }
         let of = MethodNo(method);
@@ -100,8 +99,7 @@ impl<'a> Work<'a> {
         ensures { AreMissing self.now (λ e s. Exc method e s) result }
     {
         self.told();
-        let subject = self.subject;
-        if method >= subject.app.method_count() {
+        if method >= self.method_count() {
             return 0;
         }
         let of = MethodNo(method);
@@ -124,8 +122,7 @@ impl<'a> Work<'a> {
         ensures { AreMissing self.now (λ q s. View component q s) result }
     {
         self.told();
-        let subject = self.subject;
-        if component as usize >= subject.list.rows.len() {
+        if component >= self.component_count() {
             return 0;
         }
         let of = ComponentNo(component);
