@@ -19,11 +19,11 @@ use Rattle.report_path.specs.Lookups.{Has}
 use Rattle.report_path.specs.Paths.{Follows}
 use Rattle.report_path.specs.Tests.{fact_at}
 use Rattle.report_path.specs.Views.{IsBy, IsOwn, IsOther, IsAfter, fact_of}
-use Rattle.solution.specs.Facts.{holds}
+use Rattle.solution.specs.Facts.{Facts, holds}
 use Rattle.solution.proofs.Bits.{has_true}
 use Rattle.fact_log.specs.declared.log.Line.{Line}
 use Rattle.fact_log.specs.declared.log.Why.TheVariants.{Entered, Led}
-use Rattle.fact_log.specs.Logs.{HasFacts, IsListed, IsLogged, IsSeen, end_by, end_in, end_of_line, line_fact}
+use Rattle.fact_log.specs.Logs.{HasFacts, IsListed, IsLog, IsLogged, IsSeen, end_by, end_in, end_of_line, line_fact}
 use Rattle.fact_log.specs.Work.{IsMissing, IsWork, NothingNew, WorkParts, case_in, line, moved_by, view}
 
 -- ---- what a fact tells of its line
@@ -216,3 +216,17 @@ module _ (w : WorkParts) (is : IsWork w) (done : NothingNew w) where
 
     pub all_logged : HasFacts w.lines w.views (holds w.solution)
     all_logged f h = is.logged f (known (least.sound f h)).0
+
+-- ---- the same of the solution that was given
+module _ (w : WorkParts) (is : IsWork w) (x : SubjectParts) (l : ℕ) (t : Facts) (subject : w.subject ≡ x) (lock : w.lock ≡ l) (solution : w.solution ≡ t) (lines : List Line) (views : List ViewStep) (same_lines : lines ≡ w.lines) (same_views : views ≡ w.views) where
+  pub right_log : IsLog x l lines views
+  right_log =
+      let here : IsLog x l w.lines w.views = rw (subject, lock) at is.log in
+      rw (same_lines, same_views) here
+
+  pub covers_log : NothingNew w → IsLeast (Rules x l) none_given (holds t) → HasFacts lines views (holds t)
+  covers_log done least =
+      let own : IsLeast (Rules w.subject w.lock) none_given (holds w.solution) = rw (subject, lock, solution) least in
+      let has = all_logged w is done own in
+      let here : HasFacts w.lines w.views (holds t) = rw solution at has in
+      rw (same_lines, same_views) here

@@ -3,3 +3,4 @@ pub mod Closed
 pub mod Growing
 pub mod Pushing
 pub mod Ranges
+pub mod Searched
