@@ -12,7 +12,7 @@ use Rattle.flow_model.specs.Status.{reset, reset_column}
 use Rattle.report_path.specs.declared.report.BodyPath.{BodyPath}
 use Rattle.report_path.specs.Lookups.{Has}
 use Rattle.report_path.specs.Paths.{cited_in, end_of}
-use Rattle.report_path.specs.Tests.{IsReturn, Shows}
+use Rattle.report_path.specs.Tests.{Given, IsReturn, Shows}
 use Rattle.report_path.proofs.Instances.{returned_by}
 
 -- ---- out of range
@@ -45,16 +45,16 @@ end_returns b m e s is = rw (is.thrown, is.method, is.entry, is.exit) refl
 is_return : (b : BodyPath) (m e s : ℕ) → end_of b ≡ Ret m e s → IsReturn b m e s
 is_return b m e s is = (let o = returned_by b.thrown b.method b.entry b.exit m e s (sym is) in record { thrown = o.thrown_is; method = sym o.method; entry = sym o.entry; exit = sym o.exit })
 
-pub shown_none : (bodies : List BodyPath) (body : Option ℕ) (f : Fact) → body ≡ None → IsTrue false ↔ Shows bodies body f
+pub shown_none : (bodies : List BodyPath) (body : Option ℕ) (f : Fact) → body ≡ None → IsTrue false ↔ Shows (cited_in bodies) body f
 shown_none bodies body f none = (λ t. absurd (cc), λ h. absurd (let is = h.holds in let at = ap (cited_in bodies) (sym none) ∙ h.at in cc))
 
-pub shown_past : (bodies : List BodyPath) (body : Option ℕ) (j : ℕ) (f : Fact) → body ≡ Some j → length bodies ≤ j → IsTrue false ↔ Shows bodies body f
+pub shown_past : (bodies : List BodyPath) (body : Option ℕ) (j : ℕ) (f : Fact) → body ≡ Some j → length bodies ≤ j → IsTrue false ↔ Shows (cited_in bodies) body f
 shown_past bodies body j f some past = (
   λ t. absurd (cc),
   λ h. absurd (let at = ap (option_map (λ (b : BodyPath). end_of b ∷ [])) (sym (slice_get_past bodies j past)) ∙ ap (cited_in bodies) (sym some) ∙ h.at in cc),
 )
 
-pub shown_by : (bodies : List BodyPath) (body : Option ℕ) (j : ℕ) (b : BodyPath) (m e s : ℕ) (r : Bool) → body ≡ Some j → Some b ≡ slice_get bodies j → (IsTrue r ↔ IsReturn b m e s) → IsTrue r ↔ Shows bodies body (Ret m e s)
+pub shown_by : (bodies : List BodyPath) (body : Option ℕ) (j : ℕ) (b : BodyPath) (m e s : ℕ) (r : Bool) → body ≡ Some j → Some b ≡ slice_get bodies j → (IsTrue r ↔ IsReturn b m e s) → IsTrue r ↔ Shows (cited_in bodies) body (Ret m e s)
 shown_by bodies body j b m e s r some there test =
     let ends : cited_in bodies body ≡ Some (end_of b ∷ []) = ap (cited_in bodies) some ∙ ap (option_map (λ (x : BodyPath). end_of x ∷ [])) (sym there) in (
       λ on. record { value = end_of b ∷ []; at = ends; holds = ap (λ f. f ∷ []) (end_returns b m e s (test.0 on)) },
@@ -63,11 +63,11 @@ shown_by bodies body j b m e s r some there test =
 
 -- ---- an edge that carries
 module _ (x : SubjectParts) (l c : ℕ) (edge : Edge) (s t : ℕ) where
-  only_outside : {ends : List Fact} → Carries x l c edge s t ends → callback_at x.list c edge.callback ≡ None → (ends ≡ []) × (t ≡ entered x l c edge s)
+  pub only_outside : {ends : List Fact} → Carries x l c edge s t ends → callback_at x.list c edge.callback ≡ None → (ends ≡ []) × (t ≡ entered x l c edge s)
   only_outside (outside absent eq) none = (refl, eq)
   only_outside (by_method m is) none = absurd (cc)
 
-  only_method : (m : ℕ) {ends : List Fact} → Carries x l c edge s t ends → callback_at x.list c edge.callback ≡ Some m → ends ≡ Ret m (entered x l c edge s) t ∷ []
+  pub only_method : (m : ℕ) {ends : List Fact} → Carries x l c edge s t ends → callback_at x.list c edge.callback ≡ Some m → ends ≡ Ret m (entered x l c edge s) t ∷ []
   only_method m (outside absent eq) some = absurd (cc)
   only_method m (by_method n is) some = (let same : n ≡ m = cc in ap (λ k. Ret k (entered x l c edge s) t ∷ []) same)
 
@@ -78,9 +78,20 @@ module _ (x : SubjectParts) (l c : ℕ) (edge : Edge) (s t : ℕ) where
       λ h. (let z = only_outside h.holds (sym none) in test.1 (uncited bodies body (h.at ∙ ap Some z.0), z.1 ∙ sym entry)),
     )
 
-    pub carried_method : (m : ℕ) → Some m ≡ callback_at x.list c edge.callback → (IsTrue r ↔ Shows bodies body (Ret m e t)) → IsTrue r ↔ Has (cited_in bodies body) (λ ends. Carries x l c edge s t ends)
+    pub carried_method : (m : ℕ) → Some m ≡ callback_at x.list c edge.callback → (IsTrue r ↔ Shows (cited_in bodies) body (Ret m e t)) → IsTrue r ↔ Has (cited_in bodies body) (λ ends. Carries x l c edge s t ends)
     carried_method m some test =
         let ret : Ret m e t ∷ [] ≡ Ret m (entered x l c edge s) t ∷ [] = ap (λ k. Ret m k t ∷ []) entry in (
           λ on. (let z = test.0 on in record { value = z.value; at = z.at; holds = subst (λ ends. Carries x l c edge s t ends) (sym (z.holds ∙ ret)) (by_method m (sym some)) }),
           λ h. test.1 (record { value = h.value; at = h.at; holds = only_method m h.holds (sym some) ∙ sym ret }),
         )
+
+-- ---- the same, where a task is read by its parts
+module _ (raw t : Given) (is : raw ≡ t) (c : ℕ) (edge : Edge) (s u : ℕ) (body : Option ℕ) (e : ℕ) (r : Bool) (entry : e ≡ entered raw.subject raw.lock c edge s) where
+  abbrev Carried : Given → Type 0
+  Carried t = IsTrue r ↔ Has (cited_in t.bodies body) (λ ends. Carries t.subject t.lock c edge s u ends)
+
+  pub task_outside : None ≡ callback_at raw.subject.list c edge.callback → (IsTrue r ↔ ((body ≡ None) × (u ≡ e))) → Carried t
+  task_outside none test = subst Carried is (carried_outside raw.subject raw.lock c edge s u raw.bodies body e r entry none test)
+
+  pub task_method : (m : ℕ) → Some m ≡ callback_at raw.subject.list c edge.callback → (IsTrue r ↔ Shows (cited_in t.bodies) body (Ret m e u)) → Carried t
+  task_method m some = subst (λ (t : Given). (IsTrue r ↔ Shows (cited_in t.bodies) body (Ret m e u)) → Carried t) is (λ test. carried_method raw.subject raw.lock c edge s u raw.bodies body e r entry m some test)

@@ -12,10 +12,11 @@ use Rattle.flow_model.specs.Subject.{is_open, own_operation}
 use Rattle.report_path.specs.declared.goal.Goal.{Goal}
 use Rattle.report_path.specs.declared.goal.Goal.TheVariants.{Before, Returned, Thrown}
 use Rattle.report_path.specs.declared.report.BodyPath.{BodyPath}
+use Rattle.report_path.specs.declared.report.End.{End}
 use Rattle.report_path.specs.Lookups.{Has}
 use Rattle.report_path.specs.Paths.{Follows, cited_in, end_fact, end_of}
-use Rattle.report_path.specs.Tests.{Spot, ByCall, ByItself, ComesFrom, fact_at, masks_of}
-use Rattle.report_path.proofs.Tests.{has_none}
+use Rattle.report_path.specs.Tests.{Spot, ByCall, ByItself, ComesFrom, end_at, fact_at, masks_of}
+use Rattle.report_path.proofs.Tests.{has_none, has_test}
 
 -- ---- what a fact tells of the goal
 record IsAt (goal : Goal) (s : ℕ) (to : Goal) (t : ℕ) : Type 0 where
@@ -98,9 +99,9 @@ module _ (t : Spot) (e : ℕ) (goal : Goal) (s : ℕ) where
   itself (C3 n k callee opened there) stays is to = absurd (cc)
   itself (C3_leaves n callee opened leaves) stays is to = absurd (cc)
 
-  -- a call by the body of its callee
-  module _ (b : BodyPath) where
-    by_call : {needs : List Fact} {f : Fact} (r : Inside t.subject t.lock (masks_of t) needs f) → needs ≡ Here ∷ end_of b ∷ [] → f ≡ There → ByCall t b goal s
+  -- a call by the end of its callee
+  module _ (b : End) where
+    by_call : {needs : List Fact} {f : Fact} (r : Inside t.subject t.lock (masks_of t) needs f) → needs ≡ Here ∷ end_at b ∷ [] → f ≡ There → ByCall t b goal s
     by_call (I1 k own there mask) is to = absurd (cc)
     by_call (I1_return returns) is to = absurd (cc)
     by_call (I2 k own there mask) is to = absurd (cc)
@@ -112,7 +113,7 @@ module _ (t : Spot) (e : ℕ) (goal : Goal) (s : ℕ) where
         let method : m ≡ t.method = cc in
         let index : i ≡ t.index = cc in
         let status : q ≡ t.status = cc in
-        let end : Ret n.0 q u ≡ end_of b = cc in
+        let end : Ret n.0 q u ≡ end_at b = cc in
         let o = returned_by b.thrown b.method b.entry b.exit n.0 q u end in
         let no : n ≡ record { 0 = b.method } = ap (λ (k : ℕ). record { 0 = k }) o.method in
         record {
@@ -126,7 +127,7 @@ module _ (t : Spot) (e : ℕ) (goal : Goal) (s : ℕ) where
         let method : m ≡ t.method = cc in
         let index : i ≡ t.index = cc in
         let status : q ≡ t.status = cc in
-        let end : Exc n.0 q u ≡ end_of b = cc in
+        let end : Exc n.0 q u ≡ end_at b = cc in
         let o = thrown_by b.thrown b.method b.entry b.exit n.0 q u end in
         let no : n ≡ record { 0 = b.method } = ap (λ (k : ℕ). record { 0 = k }) o.method in
         record {
@@ -140,7 +141,7 @@ module _ (t : Spot) (e : ℕ) (goal : Goal) (s : ℕ) where
         let method : m ≡ t.method = cc in
         let index : i ≡ t.index = cc in
         let status : q ≡ t.status = cc in
-        let end : Exc n.0 q u ≡ end_of b = cc in
+        let end : Exc n.0 q u ≡ end_at b = cc in
         let o = thrown_by b.thrown b.method b.entry b.exit n.0 q u end in
         let no : n ≡ record { 0 = b.method } = ap (λ (k : ℕ). record { 0 = k }) o.method in
         record {
@@ -163,12 +164,12 @@ module _ (t : Spot) (e : ℕ) (s : ℕ) where
   follows Returned (inr z) = absurd z.1
   follows Thrown (inr z) = record { rule = I3_leaves z.1 z.0; stays = λ is. (cc) }
 
+  pub itself_test : (goal : Goal) (r : Bool) → (IsTrue r ↔ ByItself t goal s) → IsTrue r ↔ Follows t.subject t.lock (At t.method e t.index t.status ∷ []) (fact_at goal t.method e s)
+  itself_test goal r test = (λ on. follows goal (test.0 on), λ f. test.1 (itself t e goal s f.rule f.stays refl refl))
+
   pub test_itself : (goal : Goal) (before : List BodyPath) (cites : Option ℕ) (r : Bool) → cites ≡ None → (IsTrue r ↔ ByItself t goal s)
       → IsTrue r ↔ Has (cited_in before cites) (λ ends. Follows t.subject t.lock (At t.method e t.index t.status ∷ ends) (fact_at goal t.method e s))
-  test_itself goal before cites r none test = (
-    (λ on. record { value = []; at = rw none refl; holds = follows goal (test.0 on) }),
-    (λ h. test.1 (let is : [] ≡ h.value = (let at = h.at in let same = ap (cited_in before) none in cc) in itself t e goal s h.holds.rule h.holds.stays (ap (λ fs. At t.method e t.index t.status ∷ fs) (sym is)) refl)),
-  )
+  test_itself goal before cites r none test = has_test r (cited_in before cites) [] (sym (ap (cited_in before) none)) (itself_test goal r test)
 
   by_end : (goal : Goal) (thrown : Bool) (n : MethodNo) → is_open t.subject t.lock t.method t.index t.status ≡ true → Contains (callees_at t.subject t.method t.index) n → ComesFrom t thrown goal
       → Follows t.subject t.lock (At t.method e t.index t.status ∷ end_fact thrown n.0 t.status s ∷ []) (fact_at goal t.method e s)
@@ -179,19 +180,20 @@ module _ (t : Spot) (e : ℕ) (s : ℕ) where
   by_end Returned true n opened callee comes = absurd comes
   by_end Thrown true n opened callee comes = record { rule = C3_leaves n callee opened comes; stays = λ is. (cc) }
 
-  by_body : (goal : Goal) (b : BodyPath) → ByCall t b goal s → Follows t.subject t.lock (At t.method e t.index t.status ∷ end_of b ∷ []) (fact_at goal t.method e s)
+  by_body : (goal : Goal) (b : End) → ByCall t b goal s → Follows t.subject t.lock (At t.method e t.index t.status ∷ end_at b ∷ []) (fact_at goal t.method e s)
   by_body goal b c =
       let f = by_end goal b.thrown (record { 0 = b.method }) c.called.0 c.called.1 c.comes in
-      let same : end_fact b.thrown b.method t.status s ≡ end_of b = ap (λ (r : ℕ). end_fact b.thrown b.method r s) (sym c.entry) ∙ ap (λ (r : ℕ). end_fact b.thrown b.method b.entry r) (sym c.exit) in
+      let same : end_fact b.thrown b.method t.status s ≡ end_at b = ap (λ (r : ℕ). end_fact b.thrown b.method r s) (sym c.entry) ∙ ap (λ (r : ℕ). end_fact b.thrown b.method b.entry r) (sym c.exit) in
       subst (λ (end : Fact). Follows t.subject t.lock (At t.method e t.index t.status ∷ end ∷ []) (fact_at goal t.method e s)) same f
 
-  pub test_call : (goal : Goal) (before : List BodyPath) (cites : Option ℕ) (j : ℕ) (b : BodyPath) (r : Bool) → cites ≡ Some j → Some b ≡ slice_get before j → (IsTrue r ↔ ByCall t b goal s)
+  pub call_test : (goal : Goal) (b : End) (r : Bool) → (IsTrue r ↔ ByCall t b goal s) → IsTrue r ↔ Follows t.subject t.lock (At t.method e t.index t.status ∷ end_at b ∷ []) (fact_at goal t.method e s)
+  call_test goal b r test = (λ on. by_body goal b (test.0 on), λ f. test.1 (by_call t e goal s b f.rule refl refl))
+
+  pub test_call : (goal : Goal) (before : List BodyPath) (cites : Option ℕ) (j : ℕ) (b : BodyPath) (end : End) (r : Bool) → cites ≡ Some j → Some b ≡ slice_get before j → end_at end ≡ end_of b → (IsTrue r ↔ ByCall t end goal s)
       → IsTrue r ↔ Has (cited_in before cites) (λ ends. Follows t.subject t.lock (At t.method e t.index t.status ∷ ends) (fact_at goal t.method e s))
-  test_call goal before cites j b r some there test =
-      let ends : cited_in before cites ≡ Some (end_of b ∷ []) = ap (cited_in before) some ∙ ap (option_map (λ (x : BodyPath). end_of x ∷ [])) (sym there) in (
-        (λ on. record { value = end_of b ∷ []; at = ends; holds = by_body goal b (test.0 on) }),
-        (λ h. test.1 (let is : end_of b ∷ [] ≡ h.value = (let at = h.at in cc) in by_call t e goal s b h.holds.rule (ap (λ fs. At t.method e t.index t.status ∷ fs) (sym is)) refl)),
-      )
+  test_call goal before cites j b end r some there is test =
+      let ends : cited_in before cites ≡ Some (end_of b ∷ []) = ap (cited_in before) some ∙ ap (option_map (λ (x : BodyPath). end_of x ∷ [])) (sym there) in
+      has_test r (cited_in before cites) (end_at end ∷ []) (ap (λ f. Some (f ∷ [])) is ∙ sym ends) (call_test goal end r test)
 
 pub test_uncited : (before : List BodyPath) (cites : Option ℕ) (j : ℕ) {P : List Fact → Type 0} → cites ≡ Some j → None ≡ slice_get before j → IsTrue false ↔ Has (cited_in before cites) P
 test_uncited before cites j some none =

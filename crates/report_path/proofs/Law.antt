@@ -150,9 +150,9 @@ module _ (x : SubjectParts) (l : ℕ) where
           leads a f ((path.goes_on k (omega arith)).last a there (omega arith)) (before_step k a there)
 
   -- ---- all bodies, then all views
-  module _ (sound : IsSubject x) (bodies : List BodyPath) (right : (k : ℕ) → RightBody (record { subject = x; lock = l; bodies = bodies }) k) where
+  module _ (sound : IsSubject x) (bodies : List BodyPath) (right : (k : ℕ) → RightBody x l bodies k) where
     abbrev case : Case
-    case = record { subject = x; lock = l; bodies = bodies }
+    case = record { subject = x; lock = l; ends = cited_in bodies }
 
     abbrev ShownAt : ℕ → Type 0
     ShownAt k = (b : BodyPath) → slice_get bodies k ≡ Some b → Shown b

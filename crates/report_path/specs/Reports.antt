@@ -12,8 +12,8 @@ use Rattle.report_path.specs.Paths.{IsBody, cited_in}
 use Rattle.report_path.specs.Views.{Case, IsView, fact_of}
 
 -- ---- pieces by number: each cites pieces before it; past the end there is none
-abbrev pub RightBody : Case → (k : ℕ) → Type 0
-RightBody t k = (b : BodyPath) → slice_get t.bodies k ≡ Some b → IsBody t.subject t.lock (take k t.bodies) b
+abbrev pub RightBody : SubjectParts → (l : ℕ) → (bodies : List BodyPath) → (k : ℕ) → Type 0
+RightBody x l bodies k = (b : BodyPath) → slice_get bodies k ≡ Some b → IsBody x l (take k bodies) b
 
 abbrev pub RightView : Case → (views : List ViewStep) → (k : ℕ) → Type 0
 RightView t views k = (v : ViewStep) → slice_get views k ≡ Some v → IsView t (take k views) v
@@ -27,17 +27,17 @@ abbrev pub IsExit : SubjectParts → Report → Type 0
 IsExit x r = Has (slice_get r.views.items r.view) (λ v. Has (cited_in r.bodies.items r.body) (IsLast x r v))
 
 abbrev pub case_of : SubjectParts → Report → Case
-case_of x r = record { subject = x; lock = r.lock; bodies = r.bodies.items }
+case_of x r = record { subject = x; lock = r.lock; ends = cited_in r.bodies.items }
 
 -- ---- a valid report
 pub record IsValidReport (x : SubjectParts) (r : Report) : Type 0 where
-  pub bodies : (k : ℕ) → RightBody (case_of x r) k
+  pub bodies : (k : ℕ) → RightBody x r.lock r.bodies.items k
   pub views : (k : ℕ) → RightView (case_of x r) r.views.items k
   pub exit : IsExit x r
 
 -- ---- the verdict on a report: the first piece that is not right, where bodies are counted first, then views, then the exit
 pub record IsRight (x : SubjectParts) (r : Report) (n : ℕ) : Type 0 where
-  pub body : RightBody (case_of x r) n
+  pub body : RightBody x r.lock r.bodies.items n
   pub view : (k : ℕ) → n ≡ length r.bodies.items + k → RightView (case_of x r) r.views.items k
   pub exit : n ≡ length r.bodies.items + length r.views.items → IsExit x r
 

@@ -11,10 +11,11 @@ use Rattle.flow_model.specs.Subject.{Masks, is_open, returns_at, status_masks}
 use Rattle.report_path.specs.declared.goal.Goal.{Goal}
 use Rattle.report_path.specs.declared.goal.Goal.TheVariants.{Before, Returned, Thrown}
 use Rattle.report_path.specs.declared.report.BodyPath.{BodyPath}
+use Rattle.report_path.specs.declared.report.End.{End}
 use Rattle.report_path.specs.declared.report.Report.{Report}
 use Rattle.report_path.specs.declared.report.ViewStep.{ViewStep}
 use Rattle.report_path.specs.Lookups.{Has}
-use Rattle.report_path.specs.Paths.{cited_in}
+use Rattle.report_path.specs.Paths.{cited_in, end_fact}
 use Rattle.report_path.specs.Views.{Case, Moves}
 
 -- the first instruction of method m from which on no pc is below that one
@@ -89,15 +90,28 @@ abbrev pub ComesFrom : Spot → (thrown : Bool) → Goal → Type 0
 ComesFrom t true goal = ThrownTo t goal
 ComesFrom t false goal = ComesBack t goal
 
-pub record ByCall (t : Spot) (b : BodyPath) (goal : Goal) (s : ℕ) : Type 0 where
+-- what an end shows
+abbrev pub end_at : End → Fact
+end_at b = end_fact b.thrown b.method b.entry b.exit
+
+pub record ByCall (t : Spot) (b : End) (goal : Goal) (s : ℕ) : Type 0 where
   pub called : IsCalled t b.method
   pub entry : b.entry ≡ t.status
   pub exit : b.exit ≡ s
   pub comes : ComesFrom t b.thrown goal
 
--- ---- the body that is cited shows the fact
-abbrev pub Shows : List BodyPath → (body : Option ℕ) → Fact → Type 0
-Shows bodies body f = Has (cited_in bodies body) (λ ends. ends ≡ f ∷ [])
+-- ---- lock field l of a subject, and the bodies of a report
+pub record Given : Type 0 where
+  pub subject : SubjectParts
+  pub lock : ℕ
+  pub bodies : List BodyPath
+
+abbrev pub case_in : Given → Case
+case_in t = record { subject = t.subject; lock = t.lock; ends = cited_in t.bodies }
+
+-- ---- what is cited shows the fact
+abbrev pub Shows : (ends : Option ℕ → Option (List Fact)) → (body : Option ℕ) → Fact → Type 0
+Shows ends body f = Has (ends body) (λ facts. facts ≡ f ∷ [])
 
 pub record IsReturn (b : BodyPath) (m e s : ℕ) : Type 0 where
   pub thrown : b.thrown ≡ false

@@ -5,26 +5,24 @@ use Rattle.app_model.specs.Components.{edge_at}
 use Rattle.app_model.specs.Facts.{Fact, View}
 use Rattle.app_model.specs.Subject.{SubjectParts}
 use Rattle.flow_model.specs.Rules.{Carries, no_lock}
-use Rattle.report_path.specs.declared.report.BodyPath.{BodyPath}
 use Rattle.report_path.specs.declared.report.By.{By}
 use Rattle.report_path.specs.declared.report.By.TheVariants.{Start, Outside, Own, Other}
 use Rattle.report_path.specs.declared.report.ViewStep.{ViewStep}
 use Rattle.report_path.specs.Lookups.{Has}
-use Rattle.report_path.specs.Paths.{cited_in}
 
 abbrev pub fact_of : ViewStep → Fact
 fact_of v = View v.component v.state v.status
 
--- lock field l of a subject, and the bodies of a report
+-- lock field l of a subject, and what is shown by what may be cited, by its number, or by nothing
 pub record Case : Type 0 where
   pub subject : SubjectParts
   pub lock : ℕ
-  pub bodies : List BodyPath
+  pub ends : Option ℕ → Option (List Fact)
 
 -- an edge from the view's state carries its status to t, with what is cited
 pub record Moves (t : Case) (v : ViewStep) (edge : Edge) (body : Option ℕ) (s : ℕ) : Type 0 where
   pub state : edge.from ≡ v.state
-  pub carried : Has (cited_in t.bodies body) (λ ends. Carries t.subject t.lock v.component edge v.status s ends)
+  pub carried : Has (t.ends body) (λ ends. Carries t.subject t.lock v.component edge v.status s ends)
 
 -- edge number e of the view's component
 abbrev pub edge_from : Case → ViewStep → (e : ℕ) → Option Edge

@@ -1,6 +1,7 @@
 //! The test of a report.
 ghost use Rattle.std.specs.Prelude.{◌+◌, ◌≤◌, length};
 ghost use Rattle.report_path.specs.Reports.{FirstWrong, IsVerdict, RightBody, RightView};
+ghost use Rattle.report_path.specs.Tests.{case_in};
 
 use crate::exit::is_exit;
 use crate::report::{BodyPath, Report, ViewStep};
@@ -12,7 +13,7 @@ use ns_base::LockNo;
 
 // The first body that is wrong.
 fn wrong_body(subject: &Subject, lock: LockNo, bodies: &[BodyPath]) -> Option<usize>
-    ensures { FirstWrong (RightBody (record { subject = subject.now; lock = lock.0; bodies = bodies.now })) result }
+    ensures { FirstWrong (RightBody subject.now lock.0 bodies.now) result }
 {
     for k in 0..bodies.len() {
         let (before, _) = bodies.split_at(k);
@@ -25,7 +26,7 @@ fn wrong_body(subject: &Subject, lock: LockNo, bodies: &[BodyPath]) -> Option<us
 
 // The first view that is wrong.
 fn wrong_view(task: &Task, views: &[ViewStep]) -> Option<usize>
-    ensures { FirstWrong (RightView task.now views.now) result }
+    ensures { FirstWrong (RightView (case_in task.now) views.now) result }
 {
     for k in 0..views.len() {
         let (before, _) = views.split_at(k);

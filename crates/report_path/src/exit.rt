@@ -4,11 +4,11 @@ ghost use Rattle.app_model.specs.Components.{exits_at};
 ghost use Rattle.app_model.specs.Masks.{in_mask};
 ghost use Rattle.report_path.specs.Lookups.{Has};
 ghost use Rattle.report_path.specs.Reports.{IsExit};
-ghost use Rattle.report_path.specs.Tests.{EndsBy, IsEnd, IsUnmet};
+ghost use Rattle.report_path.specs.Tests.{EndsBy, IsEnd, IsUnmet, case_in};
 
 use crate::report::{Report, ViewStep};
 use crate::task::Task;
-use crate::views::view_at;
+use crate::views::{Carrier, view_at};
 use app_model::{Edge, Subject};
 use flow_model::has_status;
 use ns_base::{ComponentNo, LockNo};
@@ -49,7 +49,7 @@ fn is_unmet(subject: &Subject, report: &Report) -> bool
 }
 
 fn ends_by(task: &Task, report: &Report, view: ViewStep, edge: Edge) -> bool
-    ensures { IsTrue result ↔ EndsBy task.now report.now view edge }
+    ensures { IsTrue result ↔ EndsBy (case_in task.now) report.now view edge }
 {
     if edge.callback as u32 != report.callback {
         return false;
@@ -58,7 +58,7 @@ fn ends_by(task: &Task, report: &Report, view: ViewStep, edge: Edge) -> bool
 }
 
 fn is_end(task: &Task, report: &Report, view: ViewStep) -> bool
-    ensures { IsTrue result ↔ IsEnd task.now report.now view }
+    ensures { IsTrue result ↔ IsEnd (case_in task.now) report.now view }
 {
     if view.component != report.component {
         return false;
@@ -70,7 +70,7 @@ fn is_end(task: &Task, report: &Report, view: ViewStep) -> bool
 }
 
 fn ends(task: &Task, report: &Report) -> bool
-    ensures { IsTrue result ↔ Has (slice_get report.now.views.items report.now.view) (λ v. IsEnd task.now report.now v) }
+    ensures { IsTrue result ↔ Has (slice_get report.now.views.items report.now.view) (λ v. IsEnd (case_in task.now) report.now v) }
 {
     match view_at(&report.views, report.view) {
         Some(view) => is_end(task, report, view),

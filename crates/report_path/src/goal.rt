@@ -4,7 +4,7 @@ ghost use Rattle.report_path.specs.Paths.{end_fact};
 ghost use Rattle.report_path.specs.Tests.{fact_at};
 
 /// Where a step leads in its method: before an instruction, or to an end.
-#[derive(Clone, Copy)]
+#[derive(Clone, Copy, Debug, PartialEq, Eq)]
 pub enum Goal {
     Before(u32),
     Returned,

@@ -5,11 +5,12 @@
 //!   idle moments; and a last step.
 //! - `checking` tests a report, and names the first piece that is wrong.
 //! - `steps` tests a body, by `places`, instructions by their pcs, and by `spot` and `goal`, where an instruction leads.
-//! - `views` tests a view and `exit` the last step, by `task`, where the edges of lifecycles lead.
+//! - `views` tests a view and `exit` the last step, by `task`, where the edges of lifecycles lead; `edges` has those.
 //! - `laws` has what a valid report shows.
 #![tactic(auto)]
 
 mod checking;
+mod edges;
 mod exit;
 mod goal;
 mod laws;
@@ -21,5 +22,9 @@ mod task;
 mod views;
 
 pub use checking::check_report;
+pub use edges::{Edges, stays};
+pub use goal::Goal;
 pub use laws::report_law;
-pub use report::{BodyPath, By, Report, Step, ViewStep};
+pub use report::{BodyPath, By, End, Report, Step, ViewStep};
+pub use spot::Spot;
+pub use views::{Carrier, is_view, view_at};

@@ -19,6 +19,15 @@ pub struct BodyPath {
     pub steps: Vec<Step>,
 }
 
+/// The end of a way through a method: where it was entered, and how and with what status it ends.
+#[derive(Clone, Copy, Debug, PartialEq, Eq)]
+pub struct End {
+    pub method: u32,
+    pub entry: u8,
+    pub thrown: bool,
+    pub exit: u8,
+}
+
 /// How a component comes to a state and a status: it begins so; an edge of its own leads on from a view, whose callback is
 /// outside, or is a method with the cited body; or the edge of another component leads on, from the view of that one.
 #[derive(Clone, Copy, Debug, PartialEq, Eq)]

@@ -7,7 +7,7 @@ ghost use Rattle.app_model.specs.Subject.{callees_at};
 ghost use Rattle.report_path.specs.Tests.{ByCall, ByItself, CaughtAt, ComesBack, ComesFrom, IsCalled, IsSpot, LeadsOn, PassesBy, PassesTo, ThrownTo, masks_of};
 
 use crate::goal::Goal;
-use crate::report::BodyPath;
+use crate::report::End;
 use act_model::{Act, act_of};
 use app_model::Subject;
 use flow_model::{has_status, opens, pass, throws};
@@ -233,17 +233,17 @@ impl<'a> Spot<'a> {
         }
     }
 
-    /// Whether it leads there with a status by a call, as the body of the method that is called shows.
-    pub fn leads_by(&self, body: &BodyPath, goal: Goal, status: u8) -> bool
-        ensures { IsTrue result ↔ ByCall self.now body.now goal status }
+    /// Whether it leads there with a status by a call, as the end of the method that is called shows.
+    pub fn leads_by(&self, end: End, goal: Goal, status: u8) -> bool
+        ensures { IsTrue result ↔ ByCall self.now end goal status }
     {
-        if body.entry != self.status || body.exit != status {
+        if end.entry != self.status || end.exit != status {
             return false;
         }
-        if !self.calls(body.method) {
+        if !self.calls(end.method) {
             return false;
         }
-        self.comes_from(body.thrown, goal)
+        self.comes_from(end.thrown, goal)
     }
 }
 

@@ -3,12 +3,12 @@ ghost use Rattle.std.specs.Prelude.{◌≡◌, ◌<◌, ◌↔◌, ◌∷◌, �
 ghost use Rattle.app_model.specs.Facts.{At};
 ghost use Rattle.app_model.specs.Subject.{IsSubject};
 ghost use Rattle.report_path.specs.Lookups.{Has};
-ghost use Rattle.report_path.specs.Paths.{Begins, Follows, GoesOn, IsBody, IsNext, IsPath, LeadsTo, cited_in, end_fact};
-ghost use Rattle.report_path.specs.Tests.{fact_at};
+ghost use Rattle.report_path.specs.Paths.{Begins, Follows, GoesOn, IsBody, IsNext, IsPath, LeadsTo, cited_in, end_fact, end_of};
+ghost use Rattle.report_path.specs.Tests.{end_at, fact_at};
 
 use crate::goal::{Goal, end_goal};
 use crate::places::index_of;
-use crate::report::{BodyPath, Step};
+use crate::report::{BodyPath, End, Step};
 use crate::spot::Spot;
 use app_model::Subject;
 use ns_base::{LockNo, MethodNo};
@@ -44,7 +44,7 @@ impl<'a> Entered<'a> {
                 if number >= self.before.len() {
                     return false;
                 }
-                spot.leads_by(&self.before[number], goal, status)
+                spot.leads_by(end_of(&self.before[number]), goal, status)
             }
         }
     }
@@ -119,6 +119,17 @@ impl<'a> Entered<'a> {
             return false;
         }
         self.go_on(steps, thrown, exit)
+    }
+}
+
+fn end_of(body: &BodyPath) -> End
+    ensures { end_at result ≡ end_of body.now }
+{
+    End {
+        method: body.method,
+        entry: body.entry,
+        thrown: body.thrown,
+        exit: body.exit,
     }
 }
 

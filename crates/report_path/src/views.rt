@@ -1,10 +1,26 @@
 //! The views of a report: whether each follows from earlier ones by an edge.
-ghost use Rattle.std.specs.Prelude.{◌≡◌, ◌↔◌, IsTrue, slice_get};
-ghost use Rattle.report_path.specs.Views.{IsAfter, IsBeside, IsOther, IsOwn, IsStart, IsView};
+ghost use Rattle.std.specs.Prelude.{◌≡◌, ◌↔◌, IsTrue, length, slice_get};
+ghost use Rattle.app_model.specs.Components.{edge_at};
+ghost use Rattle.report_path.specs.Views.{Case, IsAfter, IsBeside, IsOther, IsOwn, IsStart, IsView, Moves};
 
 use crate::report::{By, ViewStep};
-use crate::task::Task;
 use app_model::Edge;
+
+/// Where the edges of lifecycles carry the status of a lock field, by what may be cited.
+pub trait Carrier {
+    ghost case: { Self → Case };
+
+    fn component_count(&self) -> usize
+        ensures { result ≡ length (case self.now).subject.list };
+
+    /// An edge of a component.
+    fn edge(&self, component: u32, number: u32) -> Option<Edge>
+        ensures { result ≡ edge_at (case self.now).subject.list component number };
+
+    /// Whether an edge leads on from a view to a status, by what is cited.
+    fn moves(&self, view: ViewStep, edge: Edge, body: Option<u32>, status: u8) -> bool
+        ensures { IsTrue result ↔ Moves (case self.now) view edge body status };
+}
 
 /// An edge from a view, by its number, and the body that is cited.
 #[derive(Clone, Copy)]
@@ -21,14 +37,20 @@ pub fn view_at(views: &[ViewStep], number: u32) -> Option<ViewStep>
     views.get(number as usize).copied()
 }
 
-fn is_start(task: &Task, view: ViewStep) -> bool
-    ensures { IsTrue result ↔ IsStart task.now view }
+fn is_start<T: Carrier>(task: &T, view: ViewStep) -> bool
+    ensures { IsTrue result ↔ IsStart (T.case task.now) view }
 {
     (view.component as usize) < task.component_count() && view.state == 0 && view.status == 0
 }
 
-fn is_after(task: &Task, first: ViewStep, view: ViewStep, edge: Edge, body: Option<u32>) -> bool
-    ensures { IsTrue result ↔ IsAfter task.now first view body edge }
+fn is_after<T: Carrier>(
+    task: &T,
+    first: ViewStep,
+    view: ViewStep,
+    edge: Edge,
+    body: Option<u32>,
+) -> bool
+    ensures { IsTrue result ↔ IsAfter (T.case task.now) first view body edge }
 {
     if first.component != view.component {
         return false;
@@ -39,8 +61,8 @@ fn is_after(task: &Task, first: ViewStep, view: ViewStep, edge: Edge, body: Opti
     task.moves(first, edge, body, view.status)
 }
 
-fn is_own(task: &Task, before: &[ViewStep], view: ViewStep, by: Move) -> bool
-    ensures { IsTrue result ↔ IsOwn task.now before.now view by.view by.edge by.body }
+fn is_own<T: Carrier>(task: &T, before: &[ViewStep], view: ViewStep, by: Move) -> bool
+    ensures { IsTrue result ↔ IsOwn (T.case task.now) before.now view by.view by.edge by.body }
 {
     let Some(first) = view_at(before, by.view) else {
         return false;
@@ -51,15 +73,15 @@ fn is_own(task: &Task, before: &[ViewStep], view: ViewStep, by: Move) -> bool
     }
 }
 
-fn is_beside(
-    task: &Task,
+fn is_beside<T: Carrier>(
+    task: &T,
     first: ViewStep,
     mover: ViewStep,
     view: ViewStep,
     edge: Edge,
     body: Option<u32>,
 ) -> bool
-    ensures { IsTrue result ↔ IsBeside task.now first mover view body edge }
+    ensures { IsTrue result ↔ IsBeside (T.case task.now) first mover view body edge }
 {
     if first.component != view.component {
         return false;
@@ -76,8 +98,8 @@ fn is_beside(
     task.moves(mover, edge, body, view.status)
 }
 
-fn is_other(task: &Task, before: &[ViewStep], view: ViewStep, first: u32, by: Move) -> bool
-    ensures { IsTrue result ↔ IsOther task.now before.now view first by.view by.edge by.body }
+fn is_other<T: Carrier>(task: &T, before: &[ViewStep], view: ViewStep, first: u32, by: Move) -> bool
+    ensures { IsTrue result ↔ IsOther (T.case task.now) before.now view first by.view by.edge by.body }
 {
     let Some(first) = view_at(before, first) else {
         return false;
@@ -92,8 +114,8 @@ fn is_other(task: &Task, before: &[ViewStep], view: ViewStep, first: u32, by: Mo
 }
 
 /// Whether a view is valid, which may cite those before it.
-pub fn is_view(task: &Task, before: &[ViewStep], view: ViewStep) -> bool
-    ensures { IsTrue result ↔ IsView task.now before.now view }
+pub fn is_view<T: Carrier>(task: &T, before: &[ViewStep], view: ViewStep) -> bool
+    ensures { IsTrue result ↔ IsView (T.case task.now) before.now view }
 {
     match view.by {
         By::Start => is_start(task, view),

@@ -3,4 +3,4 @@ use Rattle.report_path.specs.Reports.{RightBody}
 use Rattle.report_path.proofs.checking.wrong_body.Given as goal
 
 abbrev pub invariant-loop-k : goal.invariant-loop-k
-invariant-loop-k l = (k : ℕ) → k < l.k → RightBody (record { subject = l.subject; lock = l.lock.0; bodies = l.bodies }) k
+invariant-loop-k l = (k : ℕ) → k < l.k → RightBody l.subject l.lock.0 l.bodies k

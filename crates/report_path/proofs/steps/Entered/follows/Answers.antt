@@ -9,4 +9,4 @@ pub returns-in-None : goal.returns-in-None
 returns-in-None c = test_itself _ _ _ _ _ _ _ c.in-None.is c.leads_itself.ensures
 
 pub returns-else-number-self : goal.returns-else-number-self
-returns-else-number-self c = test_call _ _ _ _ _ _ _ _ _ c.in-Some.is (sym (slice_get-get_or _ _ _ c.if-number-self.false) ∙ ap (λ (t : Entry). slice_get t.before c.in-Some.number) c.self.view_is) c.leads_by.ensures
+returns-else-number-self c = test_call _ _ _ _ _ _ _ _ _ _ c.in-Some.is (sym (slice_get-get_or _ _ _ c.if-number-self.false) ∙ ap (λ (t : Entry). slice_get t.before c.in-Some.number) c.self.view_is) c.end_of.ensures c.leads_by.ensures

@@ -1,8 +1,8 @@
-use Rattle.report_path.proofs.Carrying.{carried_outside, carried_method}
+use Rattle.report_path.proofs.Carrying.{task_outside, task_method}
 use Rattle.report_path.proofs.task.Task.carries.Goals as goal
 
 pub returns-in-Some : goal.returns-in-Some
-returns-in-Some c = carried_method _ _ _ _ _ _ c.args.self.now.bodies c.args.body _ _ c.enter-entry.ensures _ c.in-Some.ensures c.shows.ensures
+returns-in-Some c = task_method _ _ c.self.view_is _ _ _ _ c.args.body _ _ c.enter-entry.ensures _ c.in-Some.ensures c.shows.ensures
 
 pub returns-in-None : goal.returns-in-None
-returns-in-None c = carried_outside _ _ _ _ _ _ c.args.self.now.bodies c.args.body _ _ c.enter-entry.ensures c.in-None.ensures c.stays.ensures
+returns-in-None c = task_outside _ _ c.self.view_is _ _ _ _ c.args.body _ _ c.enter-entry.ensures c.in-None.ensures c.stays.ensures

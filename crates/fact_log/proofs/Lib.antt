@@ -1,0 +1,6 @@
+pub mod Citing
+pub mod Closed
+pub mod Growing
+pub mod Pushing
+pub mod Ranges
+pub mod Searched

@@ -1,0 +1,9 @@
+use Rattle.std.proofs.Common.{arith, below_more, rules}
+use Rattle.fact_log.proofs.Searched.{all_seen}
+use Rattle.fact_log.proofs.work.Work.find_seen.Goals as goal
+
+pub loop-status-preserved : goal.loop-status-preserved
+loop-status-preserved c = below_more _ _ c.loop-status.invariant (c.find_by.ensures.none (search rules))
+
+pub returns-clause-none : goal.returns-clause-none
+returns-clause-none c = λ none. all_seen _ _ _ _ (omega (arith, c.loop-status-test.false)) c.loop-status.invariant

@@ -1,0 +1,16 @@
+//! A log of the facts that the flow rules derive for one lock field: each with its reason, which cites earlier lines.
+//!
+//! - `log` has what a log is made of; `lines` tests a line.
+//! - `work` has a log that is being made, and `missing` what it lacks; `seek` searches for what may be added.
+//! - `logging` makes the log of a solution.
+#![tactic(auto)]
+
+mod lines;
+mod log;
+mod logging;
+mod missing;
+mod seek;
+mod work;
+
+pub use log::{FactLog, Line, Why};
+pub use logging::log_facts;
