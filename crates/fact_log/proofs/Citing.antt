@@ -65,9 +65,9 @@ module _ (x : SubjectParts) (l : ℕ) (sound : IsSubject x) where
   there m i some =
       ⊎_elim
       (λ lt. ⊎_elim
-        (λ in_code. (let e = sound.sound.sizes.code in omega (arith, e, in_code), lt))
-        (λ past. absurd (let e = ap (λ (b : BodyRows). length b.places) (get_or_past x.app.code m no_body past) in omega (arith, e, lt)))
-        (cases_lt m (length x.app.code)))
+      (λ in_code. (let e = sound.sound.sizes.code in omega (arith, e, in_code), lt))
+      (λ past. absurd (let e = ap (λ (b : BodyRows). length b.places) (get_or_past x.app.code m no_body past) in omega (arith, e, lt)))
+      (cases_lt m (length x.app.code)))
       (λ past. absurd (some (slice_get_past (places_of x.app m) i past)))
       (cases_lt i (code_len x.app m))
 

@@ -94,13 +94,7 @@ fn follows(spot: &Spot, lines: &[Line], end: Option<u32>, line: Line) -> bool
     }
 }
 
-fn leads_at(
-    cited: &Cited,
-    end: Option<u32>,
-    line: Line,
-    from: Line,
-    index: u32,
-) -> bool
+fn leads_at(cited: &Cited, end: Option<u32>, line: Line, from: Line, index: u32) -> bool
     requires { from.status < 8 }
     ensures { IsTrue result ↔ Has (end_in cited.now.lines end) (λ ends. Follows cited.now.subject cited.now.lock (At from.method line.entry index from.status ∷ ends) (fact_at line.goal from.method line.entry line.status)) }
 {

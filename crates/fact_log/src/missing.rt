@@ -53,7 +53,10 @@ impl<'a> Work<'a> {
             return 0;
         }
         let at = MethodNo(method);
-        without(self.solution.at_word(at, index), self.known.at_word(at, index))
+        without(
+            self.solution.at_word(at, index),
+            self.known.at_word(at, index),
+        )
     }
 
     pub fn method_count(&self) -> u32
@@ -132,7 +135,11 @@ impl<'a> Work<'a> {
     pub fn is_missing(&self, line: Line) -> bool
         ensures { IsTrue result ↔ IsMissing self.now (line_fact line) }
     {
-        has_bit(self.missing(line.method, line.goal), line.entry, line.status)
+        has_bit(
+            self.missing(line.method, line.goal),
+            line.entry,
+            line.status,
+        )
     }
 
     pub fn is_unseen(&self, view: ViewStep) -> bool
