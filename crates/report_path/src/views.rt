@@ -43,7 +43,13 @@ fn is_start<T: Carrier>(task: &T, view: ViewStep) -> bool
     (view.component as usize) < task.component_count() && view.state == 0 && view.status == 0
 }
 
-fn is_after<T: Carrier>(task: &T, first: ViewStep, view: ViewStep, edge: Edge, body: Option<u32>) -> bool
+fn is_after<T: Carrier>(
+    task: &T,
+    first: ViewStep,
+    view: ViewStep,
+    edge: Edge,
+    body: Option<u32>,
+) -> bool
     ensures { IsTrue result ↔ IsAfter (T.case task.now) first view body edge }
 {
     if first.component != view.component {
