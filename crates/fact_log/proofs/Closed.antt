@@ -1,6 +1,6 @@
 -- A log to which nothing can be added has each fact that the rules derive.
-use Rattle.std.proofs.Common.{◌≡◌, ℕ, ◌<◌, Bool, true, false, List, [], ◌∷◌, Option, Some, None, refl, sym, ap, ◌∙◌, subst, inl, inr, ⊎_elim}
-use Rattle.std.specs.Prelude.{◌≢◌, ◌⊎◌, slice_get}
+use Rattle.std.proofs.Common.{◌≡◌, ℕ, ◌<◌, true, List, [], ◌∷◌, Option, Some, None, refl, sym, ap, ◌∙◌, subst, inl, inr, ⊎_elim}
+use Rattle.std.specs.Prelude.{◌≢◌}
 use Rattle.std.specs.Option.{option_and_then}
 use Rattle.std.proofs.lemmas.Bool.{cases_Bool}
 use Rattle.app_model.specs.declared.component.Edge.{Edge}
@@ -13,17 +13,16 @@ use Rattle.flow_model.specs.Rules.{Rules, Inside, Starts, Between, Carries, I1, 
 use Rattle.flow_model.specs.Subject.{status_masks}
 use Rattle.report_path.specs.declared.goal.Goal.{Goal}
 use Rattle.report_path.specs.declared.goal.Goal.TheVariants.{Before, Returned, Thrown}
-use Rattle.report_path.specs.declared.report.By.TheVariants.{Start, Outside, Own, Other}
+use Rattle.report_path.specs.declared.report.By.TheVariants.{Start, Other}
 use Rattle.report_path.specs.declared.report.ViewStep.{ViewStep}
-use Rattle.report_path.specs.Lookups.{Has}
 use Rattle.report_path.specs.Paths.{Follows}
 use Rattle.report_path.specs.Tests.{fact_at}
-use Rattle.report_path.specs.Views.{IsBy, IsOwn, IsOther, IsAfter, fact_of}
+use Rattle.report_path.specs.Views.{IsBy, IsOwn}
 use Rattle.solution.specs.Facts.{Facts, holds}
 use Rattle.solution.proofs.Bits.{has_true}
 use Rattle.fact_log.specs.declared.log.Line.{Line}
 use Rattle.fact_log.specs.declared.log.Why.TheVariants.{Entered, Led}
-use Rattle.fact_log.specs.Logs.{HasFacts, IsListed, IsLog, IsLogged, IsSeen, end_by, end_in, end_of_line, line_fact}
+use Rattle.fact_log.specs.Logs.{HasFacts, IsListed, IsLog, IsSeen, end_by, end_in, end_of_line}
 use Rattle.fact_log.specs.Work.{IsMissing, IsWork, NothingNew, WorkParts, case_in, line, moved_by, view}
 
 -- ---- what a fact tells of its line

@@ -1,6 +1,5 @@
 -- A work whose log grows.
-use Rattle.std.proofs.Common.{◌≡◌, ℕ, ◌+◌, ◌<◌, ◌≤◌, ◌++◌, Bool, true, List, [], ◌∷◌, length, refl, sym, ap, ◌∙◌, subst, arith, length-append}
-use Rattle.app_model.specs.Facts.{Fact}
+use Rattle.std.proofs.Common.{◌≡◌, ℕ, ◌<◌, ◌++◌, true, List, [], ◌∷◌, length, sym, ap, ◌∙◌, subst, arith, length-append}
 use Rattle.app_model.specs.Subject.{SubjectParts}
 use Rattle.report_path.specs.declared.goal.Goal.{Goal}
 use Rattle.report_path.specs.declared.goal.Goal.TheVariants.{Before, Returned, Thrown}

@@ -1,5 +1,5 @@
 -- A log that grows by a line or by a view.
-use Rattle.std.proofs.Common.{◌≡◌, ℕ, suc, zero, ◌<◌, ◌≤◌, ◌++◌, Bool, true, List, [], ◌∷◌, length, Option, Some, None, refl, sym, ap, ◌∙◌, subst, inl, inr, ⊎_elim, arith}
+use Rattle.std.proofs.Common.{◌≡◌, ℕ, suc, zero, ◌++◌, List, [], ◌∷◌, length, Option, Some, None, refl, sym, ap, ◌∙◌, subst, inl, inr, ⊎_elim, arith}
 use Rattle.std.specs.Prelude.{◌⊎◌, slice_get, take}
 use Rattle.std.specs.Option.{option_and_then}
 use Rattle.std.proofs.lemmas.List.{take-append-le}
@@ -11,11 +11,10 @@ use Rattle.app_model.specs.Subject.{SubjectParts}
 use Rattle.report_path.specs.declared.report.By.{By}
 use Rattle.report_path.specs.declared.report.By.TheVariants.{Start, Outside, Own, Other}
 use Rattle.report_path.specs.declared.report.ViewStep.{ViewStep}
-use Rattle.report_path.specs.Lookups.{Has}
 use Rattle.report_path.specs.Views.{IsBy, IsOwn, IsView, Moves, fact_of}
 use Rattle.solution.specs.Facts.{Facts, holds}
 use Rattle.fact_log.specs.declared.log.Line.{Line}
-use Rattle.fact_log.specs.Logs.{AreLines, HasFacts, IsLineBy, IsListed, IsLog, IsLogged, IsSeen, case_of_lines, end_in, end_of_line, line_fact}
+use Rattle.fact_log.specs.Logs.{AreLines, HasFacts, IsLineBy, IsListed, IsLog, case_of_lines, end_in, end_of_line, line_fact}
 use Rattle.fact_log.specs.Work.{Came}
 
 same_Some : {X : Type 0} (x y : X) → Some x ≡ Some y → x ≡ y

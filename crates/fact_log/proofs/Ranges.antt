@@ -1,5 +1,5 @@
 -- Facts that hold have places.
-use Rattle.std.proofs.Common.{◌≡◌, ℕ, ◌<◌, ◌≤◌, Bool, true, false, List, [], length, get_or, cond, refl, sym, ap, ◌∙◌, subst, inl, inr, ⊎_elim, arith}
+use Rattle.std.proofs.Common.{◌≡◌, ℕ, ◌<◌, ◌≤◌, Bool, true, false, [], length, cond, sym, ap, ◌∙◌, ⊎_elim, arith}
 use Rattle.std.specs.Prelude.{◌↔◌, IsTrue, slice_index_or}
 use Rattle.std.proofs.lemmas.Bool.{cases_lt, cases_Bool, false≢true}
 use Rattle.std.proofs.lemmas.List.{get_or_past}
@@ -8,9 +8,8 @@ use Rattle.app_model.specs.Subject.{SubjectParts, IsSubject, is_reached}
 use Rattle.app_model.specs.Words.{code_len}
 use Rattle.solution.specs.Facts.{Facts, holds, place_count, HasPlaces}
 use Rattle.solution.specs.Table.{row_len, word}
-use Rattle.solution.specs.Words.{has}
-use Rattle.solution.proofs.Bits.{has_true, none_has}
-use Rattle.fact_log.specs.Work.{AreMissing, IsMissing, IsWork, WorkParts}
+use Rattle.solution.proofs.Bits.{none_has}
+use Rattle.fact_log.specs.Work.{AreMissing, IsWork, WorkParts}
 
 pub at_within : (t : Facts) (m e i s : ℕ) → holds t (At m e i s) ≡ true → i < row_len t.code m
 unfolding holds word row_len

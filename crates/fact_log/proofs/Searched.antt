@@ -1,14 +1,14 @@
 -- What searches leave out is out of range.
-use Rattle.std.proofs.Common.{◌≡◌, ℕ, ◌+◌, ◌<◌, ◌≤◌, Bool, true, false, List, [], length, Option, Some, None, refl, sym, ap, ◌∙◌, subst, ⊎_elim, arith}
-use Rattle.std.specs.Prelude.{◌↔◌, slice_get}
+use Rattle.std.proofs.Common.{◌≡◌, ℕ, ◌<◌, ◌≤◌, true, List, length, Option, Some, None, refl, ap, ⊎_elim, arith}
+use Rattle.std.specs.Prelude.{slice_get}
 use Rattle.std.specs.Option.{option_and_then}
 use Rattle.std.proofs.lemmas.Bool.{cases_lt}
-use Rattle.std.proofs.lemmas.Option.{slice_get_past, slice_get_within}
+use Rattle.std.proofs.lemmas.Option.{slice_get_past}
 use Rattle.app_model.specs.Components.{ComponentParts, edge_at, edge_of, edges_of}
 use Rattle.app_model.specs.declared.component.Edge.{Edge}
 use Rattle.app_model.specs.declared.component.Kind.{Kind}
 use Rattle.app_model.specs.declared.component.Kind.TheVariants.{Activity, Service, Receiver, Runnable}
-use Rattle.app_model.specs.Facts.{Fact, View}
+use Rattle.app_model.specs.Facts.{View}
 use Rattle.report_path.specs.declared.goal.Goal.{Goal}
 use Rattle.report_path.specs.declared.goal.Goal.TheVariants.{Before, Returned, Thrown}
 use Rattle.report_path.specs.declared.report.By.{By}
@@ -16,9 +16,8 @@ use Rattle.report_path.specs.declared.report.By.TheVariants.{Start, Outside, Own
 use Rattle.report_path.specs.declared.report.ViewStep.{ViewStep}
 use Rattle.report_path.specs.Lookups.{Has}
 use Rattle.report_path.specs.Tests.{fact_at}
-use Rattle.report_path.specs.Views.{IsBy, IsOwn, Moves, fact_of}
+use Rattle.report_path.specs.Views.{IsBy, Moves}
 use Rattle.solution.specs.Facts.{holds, place_count}
-use Rattle.solution.specs.Words.{has}
 use Rattle.solution.proofs.Bits.{none_has}
 use Rattle.fact_log.specs.declared.log.Line.{Line}
 use Rattle.fact_log.specs.declared.log.Why.{Why}

@@ -1,5 +1,5 @@
 -- A log that is being made, and what is tested of it.
-use Rattle.std.specs.Prelude.{ℕ, ◌≡◌, ◌<◌, ◌≤◌, ◌⊎◌, ◌↔◌, Bool, true, false, List, length, Option, Some, None}
+use Rattle.std.specs.Prelude.{ℕ, ◌≡◌, ◌<◌, ◌≤◌, ◌⊎◌, ◌↔◌, true, false, List, length, Option, Some, None}
 use Rattle.app_model.specs.Facts.{Fact}
 use Rattle.app_model.specs.Subject.{SubjectParts, IsSubject, slot_count}
 use Rattle.report_path.specs.declared.goal.Goal.{Goal}
@@ -8,7 +8,6 @@ use Rattle.report_path.specs.declared.report.By.{By}
 use Rattle.report_path.specs.declared.report.By.TheVariants.{Outside, Own, Other}
 use Rattle.report_path.specs.declared.report.ViewStep.{ViewStep}
 use Rattle.report_path.specs.Views.{Case, IsView, fact_of}
-use Rattle.report_path.specs.Tests.{fact_at}
 use Rattle.solution.specs.Facts.{Facts, holds, facts_room, HasPlaces, SameSize}
 use Rattle.solution.specs.Table.{row_len}
 use Rattle.solution.specs.Words.{has}

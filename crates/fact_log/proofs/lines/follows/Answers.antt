@@ -1,4 +1,4 @@
-use Rattle.std.proofs.Common.{◌≡◌, [], ◌∷◌, Some, sym, ap, ◌∙◌}
+use Rattle.std.proofs.Common.{[], ◌∷◌, sym, ap, ◌∙◌}
 use Rattle.report_path.specs.Tests.{end_at}
 use Rattle.report_path.proofs.Instances.{itself_test, call_test}
 use Rattle.report_path.proofs.Tests.{has_test}
