@@ -1,0 +1,6 @@
+pub mod Needs
+pub mod Down
+pub mod Walk
+pub mod Bodies
+pub mod Views
+pub mod Whole
