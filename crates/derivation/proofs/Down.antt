@@ -5,7 +5,8 @@ use Rattle.std.proofs.lemmas.Bool.{cases_eq}
 use Rattle.std.proofs.lemmas.Option.{slice_get_within}
 use Rattle.report_path.specs.declared.report.ViewStep.{ViewStep}
 use Rattle.fact_log.specs.declared.log.Line.{Line}
-use Rattle.derivation.specs.Cuts.{AreServed, AreSettled, ByNeeds, IsOneDown, IsOneViewDown, IsServed, Marked, Marks, WhyNeeds, cited_by}
+use Rattle.derivation.specs.Cuts.{AreAllMarked, AreNeeded, AreServed, AreSettled, AreViewsMarked, ByNeeds, IsOneDown, IsOneViewDown, IsServed, Marked, Marks, WhyNeeds, cited_by}
+use Rattle.derivation.specs.declared.cutting.Exit.{Exit}
 use Rattle.derivation.proofs.Needs.{line_lower, line_there, view_lower}
 
 set_here : (ms : List Bool) (n : ℕ) → n < length ms → slice_get (set ms n true) n ≡ Some true
@@ -96,3 +97,13 @@ module _ (lines : List Line) (views : List ViewStep) (k : ℕ) (v : ViewStep) (a
 
 pub served_past : (lines : List Line) (views : List ViewStep) (seen marks : List Bool) (k : ℕ) → length views ≤ k → AreServed lines views k seen marks
 served_past lines views seen marks k past t l log j z le e = absurd (let lt = slice_get_within views j z e in omega arith)
+
+-- a view and a line were marked first, then views, then lines
+pub all_needed : (lines : List Line) (views : List ViewStep) (exit : Exit) (s0 s1 s2 m0 m1 m2 m3 : List Bool) → length s0 ≡ length views → length m0 ≡ length lines → Marks s0 (λ n. n ≡ exit.view) s1 → Marks m0 (λ n. exit.end ≡ Some n) m1
+    → AreViewsMarked lines views s1 m1 s2 m2 → AreAllMarked lines m2 m3 → AreNeeded lines views exit s2 m3
+all_needed lines views exit s0 s1 s2 m0 m1 m2 m3 places numbers one other seen all = record {
+  settled = all.settled;
+  served = λ t l log j v le at mark. (let s = seen.served t l log j v le at mark in record { places = s.places; line = λ n cited. all.kept n (s.line n cited) });
+  view = λ lt. seen.kept_views exit.view (one.there exit.view refl (omega (arith, places, lt)));
+  line = λ n is lt. all.kept n (seen.kept_lines n (other.there n is (omega (arith, numbers, lt))));
+}
