@@ -182,7 +182,12 @@ fn add_body(
 }
 
 /// The bodies of the marked ends, in the order of their lines.
-pub fn make_bodies(alloc: Global, subject: &Subject, lines: &[Line], marks: &[bool]) -> Result<Made, AllocError>
+pub fn make_bodies(
+    alloc: Global,
+    subject: &Subject,
+    lines: &[Line],
+    marks: &[bool],
+) -> Result<Made, AllocError>
     ensures { IfOk result (λ made. AreMade subject.now lines.now marks.now made.numbers.items made.bodies.items (length lines.now)) }
 {
     let mut made = Made {
