@@ -4,3 +4,5 @@ pub mod Walk
 pub mod Bodies
 pub mod Views
 pub mod Whole
+pub mod Exits
+pub mod Each
