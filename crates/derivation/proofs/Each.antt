@@ -1,5 +1,5 @@
 -- Reports of violations, one after the other.
-use Rattle.std.proofs.Common.{suc, zero, ◌≡◌, ℕ, ◌<◌, List, [], ◌∷◌, ◌++◌, length, map, take, Some, refl, sym, ap, ◌∙◌, arith, subst, inl, inr, ⊎_elim}
+use Rattle.std.proofs.Common.{suc, zero, ◌≡◌, ℕ, ◌<◌, ◌+◌, List, [], ◌∷◌, ◌++◌, length, map, take, Some, refl, sym, ap, ◌∙◌, arith, subst, inl, inr, ⊎_elim}
 use Rattle.std.specs.Prelude.{slice_get, Contains}
 use Rattle.std.proofs.lemmas.Option.{get_or_from_slice_get, slice_get_within}
 use Rattle.std.proofs.lemmas.List.Elements.{Contains-get_or}
@@ -22,12 +22,14 @@ map_more : (reports : List Report) (r : Report) → map violation_of (reports ++
 map_more [] r = refl
 map_more (s ∷ reports) r = ap (λ (vs : List Violation). violation_of s ∷ vs) (map_more reports r)
 
-take_more : (found : List Violation) (k : ℕ) (v : Violation) → slice_get found k ≡ Some v → take (suc k) found ≡ take k found ++ v ∷ []
+take_more : (found : List Violation) (k : ℕ) (v : Violation) → slice_get found k ≡ Some v → take (k + 1) found ≡ take k found ++ v ∷ []
 take_more [] k v at = absurd (cc)
 take_more (w ∷ found) zero v at = (let same : w ≡ v = cc in ap (λ (v : Violation). v ∷ []) same)
-take_more (w ∷ found) (suc k) v at = ap (λ (vs : List Violation). w ∷ vs) (take_more found k v at)
+take_more (w ∷ found) (suc k) v at =
+    let shift : suc k + 1 ≡ suc (k + 1) = omega arith in
+    ap (λ (n : ℕ). take n (w ∷ found)) shift ∙ ap (λ (vs : List Violation). w ∷ vs) (take_more found k v at)
 
-pub one_more_report : (t : SubjectParts) (found : List Violation) (k : ℕ) (v : Violation) (reports : List Report) (r : Report) → slice_get found k ≡ Some v → AreReportsOf t (take k found) reports → IsReportOf t v r → AreReportsOf t (take (suc k) found) (reports ++ r ∷ [])
+pub one_more_report : (t : SubjectParts) (found : List Violation) (k : ℕ) (v : Violation) (reports : List Report) (r : Report) → slice_get found k ≡ Some v → AreReportsOf t (take k found) reports → IsReportOf t v r → AreReportsOf t (take (k + 1) found) (reports ++ r ∷ [])
 one_more_report t found k v reports r at before is = record {
   names = map_more reports r ∙ ap (λ (vs : List Violation). vs ++ violation_of r ∷ []) before.names ∙ ap (λ (w : Violation). take k found ++ w ∷ []) is.violation ∙ sym (take_more found k v at);
   valid = λ j s e. ⊎_elim (λ low. before.valid j s low.1) (λ last. subst (λ (s : Report). IsValidReport t s) last.1 is.valid) (push_cases reports r j s e);

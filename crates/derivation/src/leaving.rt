@@ -45,7 +45,13 @@ fn ret_line(lines: &[Line], method: u32, entry: u8, status: u8) -> Option<u32>
 }
 
 // The end that an edge cites which leads from a view to a status.
-fn end_for(subject: &Subject, lines: &[Line], bad: Violation, v: ViewStep, edge: Edge) -> Option<Option<u32>>
+fn end_for(
+    subject: &Subject,
+    lines: &[Line],
+    bad: Violation,
+    v: ViewStep,
+    edge: Edge,
+) -> Option<Option<u32>>
     requires { length lines.now ≤ 4294967295 }
     ensures { FirstEnd (CarriesBy subject.now bad lines.now v edge) result }
 {
@@ -77,7 +83,13 @@ fn edge_at(subject: &Subject, lock: u32, component: u32, number: u32) -> Option<
 }
 
 // The end by which the edge of that number leads from a view to a violation.
-fn end_by(subject: &Subject, lines: &[Line], bad: Violation, v: ViewStep, number: u32) -> Option<Option<u32>>
+fn end_by(
+    subject: &Subject,
+    lines: &[Line],
+    bad: Violation,
+    v: ViewStep,
+    number: u32,
+) -> Option<Option<u32>>
     requires { length lines.now ≤ 4294967295 }
     ensures { FirstEnd (LeavesBy subject.now bad lines.now v number) result }
 {

@@ -1,5 +1,5 @@
 //! The reports of all violations of a lock field, from a log of its facts.
-ghost use Rattle.std.specs.Prelude.{◌≡◌, ◌<◌, ◌≤◌, IfOk, length};
+ghost use Rattle.std.specs.Prelude.{◌≡◌, ◌<◌, ◌≤◌, IfOk, Some, length, slice_get};
 ghost use Rattle.app_model.specs.Subject.{slot_count};
 ghost use Rattle.flow_model.specs.Derived.{IsLeast};
 ghost use Rattle.flow_model.specs.Policy.{none_given};
@@ -34,7 +34,15 @@ fn report_for(
     let Some(exit) = exit_of(subject, log, bad) else {
         unreachable!()
     };
-    report_of(alloc, subject, log, bad, exit)
+    let report = report_of(alloc, subject, log, bad, exit)?;
+    Ok(report)
+}
+
+fn violation_at(found: &[Violation], k: usize) -> Violation
+    requires { k < length found.now }
+    ensures { slice_get found.now k ≡ Some result }
+{
+    found[k]
 }
 
 fn report_all(
@@ -50,7 +58,8 @@ fn report_all(
 {
     let mut reports = Vec::new(alloc);
     for k in 0..found.len() {
-        let report = report_for(alloc, subject, log, found[k])?;
+        let bad = violation_at(found, k);
+        let report = report_for(alloc, subject, log, bad)?;
         reports.push(report)?;
     }
     Ok(reports)
