@@ -1,0 +1,18 @@
+//! Reports for the violations of a lock field, cut out of a log of its facts.
+//!
+//! - `marking` marks the lines and views that a violation needs, from the last ones down.
+//! - `leaving` finds what makes a violation.
+//! - `making` makes the bodies of the marked ends, `seeing` the marked views, each with new numbers, and `cutting` the report.
+//! - `reporting` has the reports of all violations of a lock field.
+#![tactic(auto)]
+
+mod cutting;
+mod leaving;
+mod making;
+mod marking;
+mod reporting;
+mod seeing;
+
+pub use cutting::{Exit, report_of};
+pub use leaving::exit_of;
+pub use reporting::derive_from;
