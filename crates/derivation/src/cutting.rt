@@ -19,7 +19,7 @@ pub struct Exit {
     pub end: Option<u32>,
 }
 
-/// The report of a violation, with the lines and views that it needs and no other.
+/// The report of a violation, cut out of a log; no clause says that it has nothing but what it needs.
 pub fn report_of(
     alloc: Global,
     subject: &Subject,
