@@ -79,8 +79,8 @@ module _ (t : SubjectParts) (lines : List Line) (marks : List Bool) (k : ℕ) (n
   shows j ends here e = sym (ap (option_and_then end_of_line) (ap (slice_get lines) here ∙ at)) ∙ e
 
   pub none_more : ((ends : List Fact) → Marked marks k → end_of_line x ≡ Some ends → ⊥) → IsOneMore t lines marks k numbers bodies (numbers ++ 0 ∷ []) bodies
-  none_more off made l sound starts led settled =
-      let m = made l sound starts led settled in
+  none_more off made l sound led settled =
+      let m = made l sound led settled in
       record {
         numbered = record {
           body = λ j ends lt mark e. ⊎_elim
@@ -100,9 +100,9 @@ module _ (t : SubjectParts) (lines : List Line) (marks : List Bool) (k : ℕ) (n
     end_same = rw (method, entry, kind, exit) (sym (end_shown x.goal x.method x.entry x.status thrown is_end))
 
     pub one_more : IsOneMore t lines marks k numbers bodies (numbers ++ length bodies ∷ []) (bodies ++ b ∷ [])
-    one_more made l sound starts led settled =
-        let m = made l sound starts led settled in
-        let ready : IsReady t l lines marks numbers bodies k = record { sound = sound; starts = starts; led = led; settled = settled; numbered = m.numbered } in
+    one_more made l sound led settled =
+        let m = made l sound led settled in
+        let ready : IsReady t l lines marks numbers bodies k = record { sound = sound; led = led; settled = settled; numbered = m.numbered } in
         let way : IsPath (entry_at t l bodies x) b.steps.items (end_of b) = rw end_same (path l marks bodies thrown ready mark_here is_end) in
         let body : IsBody t l bodies b = subst (λ (e : ℕ). IsPath (record { subject = t; lock = l; before = bodies; method = b.method; status = e }) b.steps.items (end_of b)) (sym entry) (subst (λ (m : ℕ). IsPath (record { subject = t; lock = l; before = bodies; method = m; status = x.entry }) b.steps.items (end_of b)) (sym method) way) in
         record {

@@ -10,12 +10,12 @@ use Rattle.flow_model.specs.Rules.{Carries, Rules}
 use Rattle.flow_model.specs.declared.policy.Violation.{Violation}
 use Rattle.report_path.specs.declared.report.Report.{Report}
 use Rattle.report_path.specs.declared.report.ViewStep.{ViewStep}
-use Rattle.report_path.specs.Reports.{IsValidReport}
+use Rattle.report_path.specs.Reports.{IsValidReport, violation_of}
 use Rattle.fact_log.specs.declared.log.Line.{Line}
 use Rattle.fact_log.specs.Logs.{HasFacts, IsLog}
 use Rattle.view_solver.specs.Judged.{AreViolationsBy}
 use Rattle.derivation.specs.AllReports.{AreLogged, AreReports, AreReportsOf}
-use Rattle.derivation.specs.Cuts.{IsReportOf, StartsAtZero, violation_of}
+use Rattle.derivation.specs.Cuts.{IsReportOf}
 use Rattle.derivation.proofs.Bodies.{push_cases}
 
 map_more : (reports : List Report) (r : Report) → map violation_of (reports ++ r ∷ []) ≡ map violation_of reports ++ violation_of r ∷ []
@@ -43,12 +43,12 @@ map_get [] k r at = absurd (cc)
 map_get (s ∷ reports) zero r at = (let same : s ≡ r = cc in ap (λ (s : Report). Some (violation_of s)) same)
 map_get (s ∷ reports) (suc k) r at = map_get reports k r at
 
-module _ (t : SubjectParts) (l : ℕ) (lines : List Line) (views : List ViewStep) (set : Set) (starts : StartsAtZero t) (log : IsLog t l lines views) (facts : HasFacts lines views set) (found : List Violation) (exact : AreViolationsBy t l (HasAll set) found) where
+module _ (t : SubjectParts) (l : ℕ) (lines : List Line) (views : List ViewStep) (set : Set) (log : IsLog t l lines views) (facts : HasFacts lines views set) (found : List Violation) (exact : AreViolationsBy t l (HasAll set) found) where
   pub all_logged : AreLogged t lines views found
   all_logged k bad at =
       let is = (exact.exact bad).0 (get_contains found k bad at) in
       let log' : IsLog t bad.lock lines views = subst (λ (l : ℕ). IsLog t l lines views) (sym is.0) log in
-      record { starts = starts; log = log'; set = set; facts = facts; violation = subst (λ (l : ℕ). IsViolation t (Carries t l) l (HasAll set) bad.component bad.callback bad.status) (sym is.0) is.1 }
+      record { log = log'; set = set; facts = facts; violation = subst (λ (l : ℕ). IsViolation t (Carries t l) l (HasAll set) bad.component bad.callback bad.status) (sym is.0) is.1 }
 
   pub all_reports : (reports : List Report) → AreViolationsBy t l (Derived (Rules t l) none_given) found → AreReportsOf t found reports → AreReports t l reports
   all_reports reports derivable of = record {

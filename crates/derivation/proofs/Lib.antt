@@ -6,3 +6,4 @@ pub mod Views
 pub mod Whole
 pub mod Exits
 pub mod Each
+pub mod Gathered

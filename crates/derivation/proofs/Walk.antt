@@ -169,15 +169,15 @@ module _ (app : AppParts) (lines : List Line) (numbers : List ℕ) (k : ℕ) (x0
         let h : IsLineBy t l (take here lines) x (Led from end) = subst (λ (r : Why). IsLineBy t l (take here lines) x r) why (ready.led here x at) in
         absurd (let e = h.at in cc)
 
-  rest_path : (t : SubjectParts) (l : ℕ) (bodies : List BodyPath) (thrown : Bool) (rest : List Step) → ((m p : ℕ) → pc_at t.app m 0 ≡ Some p → p ≡ 0) → (x.goal ≡ Before 0) × (x.status ≡ x.entry) → IsRest t l bodies x0 x rest → thrown_by x0.goal ≡ Some thrown → IsPath (entry_at t l bodies x0) rest (line_fact x0)
-  rest_path t l bodies thrown [] starts first r is = absurd (let g : thrown_by (Before 0) ≡ Some thrown = subst (λ (g : Goal). thrown_by g ≡ Some thrown) first.0 (subst (λ (z : Line). thrown_by z.goal ≡ Some thrown) (sym r) is) in cc)
-  rest_path t l bodies thrown (b ∷ rest) starts first r is =
+  rest_path : (t : SubjectParts) (l : ℕ) (bodies : List BodyPath) (thrown : Bool) (rest : List Step) → (x.goal ≡ Before 0) × (x.status ≡ x.entry) → IsRest t l bodies x0 x rest → thrown_by x0.goal ≡ Some thrown → IsPath (entry_at t l bodies x0) rest (line_fact x0)
+  rest_path t l bodies thrown [] first r is = absurd (let g : thrown_by (Before 0) ≡ Some thrown = subst (λ (g : Goal). thrown_by g ≡ Some thrown) first.0 (subst (λ (z : Line). thrown_by z.goal ≡ Some thrown) (sym r) is) in cc)
+  rest_path t l bodies thrown (b ∷ rest) first r is =
       let zeroth : r.2.index ≡ 0 = (let g : Before r.2.index ≡ Before 0 = sym r.2.place ∙ first.0 in cc) in
-      let pc : pc_at t.app x.method 0 ≡ Some b.pc = subst (λ (i : ℕ). pc_at t.app x.method i ≡ Some b.pc) zeroth r.2.pc in
-      record { begins = (starts x.method b.pc pc, r.2.status ∙ first.1 ∙ r.1); goes_on = r.3 }
+      let at : index_at t.app x.method b.pc ≡ Some 0 = r.2.at ∙ ap Some zeroth in
+      record { begins = (subst (λ (m : ℕ). index_at t.app m b.pc ≡ Some 0) r.0 at, r.2.status ∙ first.1 ∙ r.1); goes_on = r.3 }
 
   pub walk_ends : x.why ≡ Entered → (t : SubjectParts) → t.app ≡ app → IsPathOf t lines numbers k x0 (reverse steps)
   walk_ends why t own l marks bodies thrown ready mark is =
       let w = walks t own l marks bodies ready mark in
       let first : IsLineBy t l (take here lines) x Entered = subst (λ (r : Why). IsLineBy t l (take here lines) x r) why (ready.led here x at) in
-      rest_path t l bodies thrown (reverse steps) ready.starts first w.1 is
+      rest_path t l bodies thrown (reverse steps) first w.1 is

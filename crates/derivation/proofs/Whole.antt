@@ -46,8 +46,8 @@ last_by t bad e w v ends same last = (
 module _ (t : SubjectParts) (bad : Violation) (lines : List Line) (views : List ViewStep) (exit : Exit) (sound : IsSubject t) (seen marks : List Bool) (needed : AreNeeded lines views exit seen marks) where
   pub cut : (numbers : List ℕ) (places : List ℕ) (r : Report) → AreMade t lines marks numbers r.bodies.items (length lines) → AreSeen lines views seen numbers places r.views.items (length views)
       → r.component ≡ bad.component → r.callback ≡ bad.callback → r.lock ≡ bad.lock → r.status ≡ bad.status → r.view ≡ slice_index places exit.view → r.edge ≡ exit.edge → r.body ≡ number_in numbers exit.end → IsCut t bad lines views exit r
-  cut numbers places r made viewed c b k s view edge body starts log last =
-      let m = made bad.lock sound starts log.led needed.settled in
+  cut numbers places r made viewed c b k s view edge body log last =
+      let m = made bad.lock sound log.led needed.settled in
       let serving : IsServing t bad.lock lines views seen marks numbers r.bodies.items = record { log = log; served = needed.served; numbered = m.numbered } in
       let w = viewed t bad.lock marks r.bodies.items serving in
       let v = last.value in

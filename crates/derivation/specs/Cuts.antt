@@ -17,7 +17,7 @@ use Rattle.report_path.specs.declared.report.Step.{Step}
 use Rattle.report_path.specs.declared.report.ViewStep.{ViewStep}
 use Rattle.report_path.specs.Lookups.{Has}
 use Rattle.report_path.specs.Paths.{Entry, IsPath, cited_in}
-use Rattle.report_path.specs.Reports.{IsValidReport, RightBody, RightView}
+use Rattle.report_path.specs.Reports.{IsValidReport, RightBody, RightView, violation_of}
 use Rattle.report_path.specs.Views.{Case, fact_of}
 use Rattle.fact_log.specs.declared.log.Line.{Line}
 use Rattle.fact_log.specs.declared.log.Why.{Why}
@@ -125,14 +125,9 @@ number_in numbers (Some j) = Some (slice_index numbers j)
 pub record AreNumbered (lines : List Line) (marks : List Bool) (numbers : List ℕ) (bodies : List BodyPath) (below : ℕ) : Type 0 where
   pub body : (j : ℕ) (ends : List Fact) → j < below → Marked marks j → end_in lines (Some j) ≡ Some ends → cited_in bodies (Some (slice_index numbers j)) ≡ Some ends
 
--- code begins at pc 0
-abbrev pub StartsAtZero : SubjectParts → Type 0
-StartsAtZero t = (m p : ℕ) → pc_at t.app m 0 ≡ Some p → p ≡ 0
-
 -- lines whose marked ends below one of them have their bodies
 pub record IsReady (t : SubjectParts) (l : ℕ) (lines : List Line) (marks : List Bool) (numbers : List ℕ) (bodies : List BodyPath) (k : ℕ) : Type 0 where
   pub sound : IsSubject t
-  pub starts : StartsAtZero t
   pub led : AreLines t l lines
   pub settled : AreSettled lines 0 marks
   pub numbered : AreNumbered lines marks numbers bodies k
@@ -151,7 +146,7 @@ pub record AreMadeOf (t : SubjectParts) (l : ℕ) (lines : List Line) (marks : L
 
 -- for each lock field that these are lines of: the marked ends below a line have valid bodies
 abbrev pub AreMade : SubjectParts → List Line → List Bool → List ℕ → List BodyPath → ℕ → Type 0
-AreMade t lines marks numbers bodies k = (l : ℕ) → IsSubject t → StartsAtZero t → AreLines t l lines → AreSettled lines 0 marks → AreMadeOf t l lines marks numbers bodies k
+AreMade t lines marks numbers bodies k = (l : ℕ) → IsSubject t → AreLines t l lines → AreSettled lines 0 marks → AreMadeOf t l lines marks numbers bodies k
 
 abbrev pub IsOneMore : SubjectParts → List Line → List Bool → ℕ → List ℕ → List BodyPath → List ℕ → List BodyPath → Type 0
 IsOneMore t lines marks k numbers bodies numbers' bodies' = AreMade t lines marks numbers bodies k → AreMade t lines marks numbers' bodies' (k + 1)
@@ -205,13 +200,10 @@ pub record IsLastBy (t : SubjectParts) (bad : Violation) (e : ℕ) (v : ViewStep
 abbrev pub IsExitAt : SubjectParts → Violation → List Line → List ViewStep → Exit → Type 0
 IsExitAt t bad lines views exit = Has (slice_get views exit.view) (λ v. Has (end_in lines exit.end) (IsLastBy t bad exit.edge v))
 
-abbrev pub violation_of : Report → Violation
-violation_of r = record { component = r.component; callback = r.callback; lock = r.lock; status = r.status }
-
 -- a valid report of that violation
 pub record IsReportOf (t : SubjectParts) (bad : Violation) (r : Report) : Type 0 where
   pub valid : IsValidReport t r
   pub violation : violation_of r ≡ bad
 
 abbrev pub IsCut : SubjectParts → Violation → List Line → List ViewStep → Exit → Report → Type 0
-IsCut t bad lines views exit r = StartsAtZero t → IsLog t bad.lock lines views → IsExitAt t bad lines views exit → IsReportOf t bad r
+IsCut t bad lines views exit r = IsLog t bad.lock lines views → IsExitAt t bad lines views exit → IsReportOf t bad r

@@ -7,12 +7,12 @@ ghost use Rattle.flow_model.specs.Rules.{Rules};
 ghost use Rattle.solution.specs.Facts.{HasPlaces, holds};
 ghost use Rattle.fact_log.specs.Logs.{HasFacts, IsLog};
 ghost use Rattle.derivation.specs.AllReports.{AreLogged, AreReports, AreReportsOf, IsLoggedViolation};
-ghost use Rattle.derivation.specs.Cuts.{IsReportOf, StartsAtZero};
+ghost use Rattle.derivation.specs.Cuts.{IsReportOf};
 
 use crate::cutting::report_of;
 use crate::leaving::exit_of;
 use app_model::Subject;
-use fact_log::FactLog;
+use fact_log::{FactLog, log_facts};
 use flow_model::Violation;
 use ns_base::{LockNo, OutOfMemory};
 use report_path::Report;
@@ -77,7 +77,6 @@ pub fn derive_from(
     requires lock { lock.0 < slot_count subject.now }
     requires places { HasPlaces subject.now solution.now }
     requires least { IsLeast (Rules subject.now lock.0) none_given (holds solution.now) }
-    requires starts { StartsAtZero subject.now }
     requires right { IsLog subject.now lock.0 log.now.lines.items log.now.views.items }
     requires covers { HasFacts log.now.lines.items log.now.views.items (holds solution.now) }
     ensures { IfOk result (λ reports. AreReports subject.now lock.0 reports.items) }
@@ -93,4 +92,25 @@ pub fn derive_from(
         Ok(reports) => Ok(reports),
         Err(AllocError) => Err(OutOfMemory),
     }
+}
+
+/// The reports of all violations for a lock field, by its least solution, in order of component, callback and status. Where
+/// there is none, nothing is logged.
+pub fn derive(
+    alloc: Global,
+    subject: &Subject,
+    lock: LockNo,
+    solution: &Solution,
+) -> Result<Vec<Report>, OutOfMemory>
+    requires lock { lock.0 < slot_count subject.now }
+    requires places { HasPlaces subject.now solution.now }
+    requires least { IsLeast (Rules subject.now lock.0) none_given (holds solution.now) }
+    ensures { IfOk result (λ reports. AreReports subject.now lock.0 reports.items) }
+{
+    let found = violations(alloc, subject, lock, solution)?;
+    if found.is_empty() {
+        return Ok(Vec::new(alloc));
+    }
+    let log = log_facts(alloc, subject, lock, solution)?;
+    derive_from(alloc, subject, lock, solution, &log)
 }

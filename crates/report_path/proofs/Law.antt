@@ -20,7 +20,6 @@ use Rattle.report_path.specs.Paths.{Entry, Begins, IsPath, LeadsTo, cited_in, en
 use Rattle.report_path.specs.Reports.{IsValidReport, RightBody, RightView}
 use Rattle.report_path.specs.Views.{Case, IsBy, IsOwn, Moves, fact_of}
 use Rattle.report_path.proofs.Lists.{take_get, from_below}
-use Rattle.report_path.proofs.Pcs.{first_index}
 
 -- ---- what a citation stands for
 record IsCited (bodies : List BodyPath) (j : ℕ) (ends : List Fact) : Type 0 where
@@ -117,9 +116,9 @@ module _ (x : SubjectParts) (l : ℕ) where
       first [] a b at i is = absurd b
       first (c ∷ steps) a b at i is =
           let same : c ≡ a = cc in
-          let pc : a.pc ≡ 0 = rw same at b.0 in
+          let begins : index_at x.app m a.pc ≡ Some 0 = rw same at b.0 in
           let status : a.status ≡ e = rw same at b.1 in
-          let zero : i ≡ 0 = first_index x.app m i sound.sound (rw pc at is) in
+          let zero : i ≡ 0 = (let found = is in cc) in
           rw (status, zero) enter
 
       before_step : (k : ℕ) (a : Step) → slice_get steps k ≡ Some a → IsBefore a

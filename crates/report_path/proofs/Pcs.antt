@@ -111,27 +111,6 @@ index_none app m pc none = position_none (λ (place : Place). place.pc == pc) (p
     (let place = get_or (places_of app m) k d in
     ⊎_elim (λ on. absurd (none k (place_pc app m k place (slice_get-get_or (places_of app m) k d lt) ∙ ap Some (eqb-true place.pc pc on)))) (λ no. no) (cases_Bool (place.pc == pc))))
 
--- the instruction at pc 0 is the first one
-module _ (app : AppParts) (m : ℕ) (sound : IsSoundApp app) (within : m < length app.methods) where
-  only_first : (k : ℕ) → pc_at app m k ≡ Some 0 → k ≡ 0
-  only_first k is = ⊎_elim (λ same. same) (λ apart. ⊎_elim (λ below. absurd (omega arith)) (λ after.
-      (let z = pc_place app m k 0 is in
-      let w = pc_within app m k 0 is in
-      let at = slice_get-get_or (places_of app m) 0 z.0 (omega arith) in
-      let up = pcs_rise app m sound within 0 k (get_or (places_of app m) 0 z.0).pc 0 (place_pc app m 0 (get_or (places_of app m) 0 z.0) at) is after in
-      absurd (omega arith))) apart)
-      (cases_order k 0)
-
-  first_within : (i : ℕ) → index_at app m 0 ≡ Some i → i ≡ 0
-  first_within i is = go (pc_at app m 0) refl
-    where
-      nowhere : (pc_at app m 0 ≡ Some 0 → ⊥) → i ≡ 0
-      nowhere off = absurd (let none = index_none app m 0 (λ k at. off (rw (only_first k at) at at)) in cc)
-
-      go : (o : Option ℕ) → pc_at app m 0 ≡ o → i ≡ 0
-      go None e = nowhere (λ at. (cc))
-      go (Some q) e = ⊎_elim (λ same. (let found = index_is app m sound within 0 0 (rw same at e) in cc)) (λ apart. nowhere (λ at. apart (let both = at in cc))) (cases_eq q 0)
-
 -- a method that has an instruction is there
 index_method : (app : AppParts) (m pc i : ℕ) → IsSoundApp app → index_at app m pc ≡ Some i → m < length app.methods
 unfolding index_at places_of
@@ -139,9 +118,6 @@ index_method app m pc i sound is = ⊎_elim (λ lt. lt) (λ past. absurd
     (let e = sound.sizes.code in
     let off : position (λ (place : Place). place.pc == pc) no_body.places ≡ Some i = subst (λ (b : BodyRows). position (λ (place : Place). place.pc == pc) b.places ≡ Some i) (get_or_past app.code m no_body (omega arith)) is in
     cc)) (cases_lt m (length app.methods))
-
-pub first_index : (app : AppParts) (m i : ℕ) → IsSoundApp app → index_at app m 0 ≡ Some i → i ≡ 0
-first_index app m i sound is = first_within app m sound (index_method app m 0 i sound is) i is
 
 pub no_method : (app : AppParts) (m pc : ℕ) → IsSoundApp app → length app.methods ≤ m → None ≡ index_at app m pc
 no_method app m pc sound past = go (index_at app m pc) refl

@@ -52,9 +52,10 @@ pub record LeadsTo (t : Entry) (a : Step) (f : Fact) : Type 0 where
 abbrev pub IsNext : Entry → (a b : Step) → Type 0
 IsNext t a b = Has (index_at t.subject.app t.method b.pc) (λ j. LeadsTo t a (At t.method t.status j b.status))
 
+-- at the first instruction of the method, at the status of the entry
 abbrev pub Begins : Entry → List Step → Type 0
 Begins t [] = ⊥
-Begins t (a ∷ steps) = (a.pc ≡ 0) × (a.status ≡ t.status)
+Begins t (a ∷ steps) = (index_at t.subject.app t.method a.pc ≡ Some 0) × (a.status ≡ t.status)
 
 -- step number k leads to the next one, and the last one to the fact
 pub record GoesOn (t : Entry) (steps : List Step) (f : Fact) (k : ℕ) : Type 0 where

@@ -4,6 +4,7 @@ use Rattle.app_model.specs.Facts.{Fact}
 use Rattle.app_model.specs.Subject.{SubjectParts}
 use Rattle.flow_model.specs.Policy.{IsViolation}
 use Rattle.flow_model.specs.Rules.{Carries}
+use Rattle.flow_model.specs.declared.policy.Violation.{Violation}
 use Rattle.report_path.specs.declared.report.BodyPath.{BodyPath}
 use Rattle.report_path.specs.declared.report.Report.{Report}
 use Rattle.report_path.specs.declared.report.ViewStep.{ViewStep}
@@ -28,6 +29,10 @@ IsExit x r = Has (slice_get r.views.items r.view) (λ v. Has (cited_in r.bodies.
 
 abbrev pub case_of : SubjectParts → Report → Case
 case_of x r = record { subject = x; lock = r.lock; ends = cited_in r.bodies.items }
+
+-- ---- the violation of which it is a report
+abbrev pub violation_of : Report → Violation
+violation_of r = record { component = r.component; callback = r.callback; lock = r.lock; status = r.status }
 
 -- ---- a valid report
 pub record IsValidReport (x : SubjectParts) (r : Report) : Type 0 where

@@ -1,9 +1,9 @@
 //! The bodies of a report: whether each step leads to the next, and the last one to the end.
-ghost use Rattle.std.specs.Prelude.{◌≡◌, ◌<◌, ◌↔◌, ◌∷◌, ℕ, IsTrue, length};
+ghost use Rattle.std.specs.Prelude.{◌≡◌, ◌<◌, ◌↔◌, ◌∷◌, ℕ, IsTrue, Some, length};
 ghost use Rattle.app_model.specs.Facts.{At};
 ghost use Rattle.app_model.specs.Subject.{IsSubject};
 ghost use Rattle.report_path.specs.Lookups.{Has};
-ghost use Rattle.report_path.specs.Paths.{Begins, Follows, GoesOn, IsBody, IsNext, IsPath, LeadsTo, cited_in, end_fact, end_of};
+ghost use Rattle.report_path.specs.Paths.{Begins, Follows, GoesOn, IsBody, IsNext, IsPath, LeadsTo, cited_in, end_fact, end_of, index_at};
 ghost use Rattle.report_path.specs.Tests.{end_at, fact_at};
 
 use crate::goal::{Goal, end_goal};
@@ -80,12 +80,23 @@ impl<'a> Entered<'a> {
         }
     }
 
+    // Whether the method's first instruction stands there.
+    fn is_entry(&self, pc: u32) -> bool
+        ensures { IsTrue result ↔ (index_at self.now.subject.app self.now.method pc ≡ Some 0) }
+    {
+        let subject = self.subject;
+        match index_of(&subject.app, self.method, pc) {
+            Some(index) => index == 0,
+            None => false,
+        }
+    }
+
     fn begins(&self, steps: &[Step]) -> bool
         ensures { IsTrue result ↔ Begins self.now steps.now }
     {
         match steps {
             [] => false,
-            [step, ..] => step.pc == 0 && step.status == self.status,
+            [step, ..] => self.is_entry(step.pc) && step.status == self.status,
         }
     }
 

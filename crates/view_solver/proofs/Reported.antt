@@ -100,14 +100,14 @@ module _ (x : SubjectParts) where
     pub callback : v.callback < 8
     pub status : v.status < 8
 
-  derivable_small : IsSubject x → (v : Violation) → IsDerivableViolation x v.lock v.component v.callback v.status → IsSmall v
+  pub derivable_small : IsSubject x → (v : Violation) → IsDerivableViolation x v.lock v.component v.callback v.status → IsSmall v
   derivable_small sound v d = record {
     lock = (let slot = d.slot in omega (arith, slot, sound.slots));
     callback = (mask_true (exits_at x.list v.component) v.callback d.exit).0;
     status = (mask_true held_statuses v.status d.held).0;
   }
 
-  goes_before : (v w : Violation) → IsSmall v → IsSmall w → report_number v < report_number w → ComesBefore v w
+  pub goes_before : (v w : Violation) → IsSmall v → IsSmall w → report_number v < report_number w → ComesBefore v w
   goes_before v w a b lt =
       ⊎_elim inl
       (λ c.
@@ -122,7 +122,7 @@ module _ (x : SubjectParts) where
       )))
       (cases_lt v.component w.component)
 
-  same_number : (v w : Violation) → IsSmall v → IsSmall w → report_number v ≡ report_number w → v ≡ w
+  pub same_number : (v w : Violation) → IsSmall v → IsSmall w → report_number v ≡ report_number w → v ≡ w
   same_number v w a b same =
       same_violation v w (omega (arith, same, a.lock, a.callback, a.status, b.lock, b.callback, b.status)) (omega (arith, same, a.lock, a.callback, a.status, b.lock, b.callback, b.status))
       (omega (arith, same, a.lock, a.callback, a.status, b.lock, b.callback, b.status)) (omega (arith, same, a.lock, a.callback, a.status, b.lock, b.callback, b.status))

@@ -10,4 +10,4 @@ unreachable-requires c =
 pub returns : goal.returns
 returns c =
     let logged = c.requires.logged in
-    c.in_ok-report.ensures logged.starts logged.log (exit_is c.args.subject.now c.args.bad c.args.log.now.lines.items c.args.log.now.views.items (HasAll logged.set) logged.violation c.in-Some.exit c.in-Some.ensures)
+    c.in_ok-report.ensures logged.log (exit_is c.args.subject.now c.args.bad c.args.log.now.lines.items c.args.log.now.views.items (HasAll logged.set) logged.violation c.in-Some.exit c.in-Some.ensures)
