@@ -4,12 +4,12 @@ use Rattle.app_model.specs.Facts.{Fact, At, View}
 use Rattle.app_model.specs.Subject.{SubjectParts}
 use Rattle.flow_model.specs.Derived.{Set}
 use Rattle.flow_model.specs.InScope.{IsInScope}
-use Rattle.flow_model.specs.Places.{Place, between_place, inside_place, place, start_place}
+use Rattle.flow_model.specs.Places.{Place, between_place, place, start_place}
 use Rattle.flow_model.specs.Places as named
-use Rattle.flow_model.specs.Rules.{Between, C1, C2, C3, C3_leaves, Carries, I1, I1_return, I2, I3, I3_leaves, Inside, Rules, Starts, V1, V2, V3, V4, V5}
-use Rattle.flow_model.specs.Subject.{Masks, status_masks}
+use Rattle.flow_model.specs.Rules.{Between, Carries, Rules, Starts, V1, V2, V3, V4, V5}
+use Rattle.one_scope.proofs.Instances.{inside_at}
 use Rattle.one_scope.proofs.Owners.{beside}
-use Rattle.one_scope.proofs.Rules.{between_over, inside_over, same_entered, same_masks}
+use Rattle.one_scope.proofs.Rules.{between_over, same_entered}
 use Rattle.cert_check.specs.Broken.{LeadsOut, place_of}
 
 module _ (x y : SubjectParts) (left : IsInScope x) (right : IsInScope (beside x y)) (l : ℕ) where
@@ -17,31 +17,11 @@ module _ (x y : SubjectParts) (left : IsInScope x) (right : IsInScope (beside x 
   z = beside x y
 
   -- instances with these needs, to this fact, at this place
-  abbrev InsideAt : Masks → List Fact → Fact → Place → Type 0
-  InsideAt masks needs f at = (i : Inside z l masks needs f) × (inside_place z l masks i ≡ at)
-
   abbrev StartsAt : List Fact → Fact → Place → Type 0
   StartsAt needs f at = (s : Starts z l needs f) × (start_place z l s ≡ at)
 
   abbrev RulesAt : List Fact → Fact → Place → Type 0
   RulesAt needs f at = (r : Rules z l needs f) × (place_of z l r ≡ at)
-
-  inside_same : {masks : Masks} {needs : List Fact} {f : Fact} (i : Inside x l masks needs f) → inside_place z l masks (inside_over x y left right l i) ≡ inside_place x l masks i
-  unfolding inside_over
-  inside_same (I1 k own to may) = refl
-  inside_same (I1_return back) = refl
-  inside_same (I2 k own to may) = refl
-  inside_same (I3 k to may) = refl
-  inside_same (I3_leaves out may) = refl
-  inside_same (C1 n among passes) = refl
-  inside_same (C2 n among passes to) = refl
-  inside_same (C3 n k among passes to) = refl
-  inside_same (C3_leaves n among passes out) = refl
-
-  inside_at : {needs : List Fact} {f : Fact} (i : Inside x l (status_masks x l) needs f) → InsideAt (status_masks z l) needs f (inside_place x l (status_masks x l) i)
-  inside_at {needs} {f} i =
-      subst (λ (masks : Masks). InsideAt masks needs f (inside_place x l (status_masks x l) i)) (same_masks x y left right l)
-      (inside_over x y left right l i, inside_same i)
 
   starts_at : {needs : List Fact} {f : Fact} (s : Starts x l needs f) → StartsAt needs f (start_place x l s)
   starts_at (V3 {c = c} {q = q} {s = s} {m = m} {edge = edge} e there from callback) =
@@ -56,7 +36,7 @@ module _ (x y : SubjectParts) (left : IsInScope x) (right : IsInScope (beside x 
   between_same (V5 e other there from carried) = refl
 
   rules_at : {needs : List Fact} {f : Fact} (r : Rules x l needs f) → RulesAt needs f (place_of x l r)
-  rules_at (inl (inl i)) = let a = inside_at i in (inl (inl a.0), a.1)
+  rules_at (inl (inl i)) = let a = inside_at x y left right l i in (inl (inl a.0), a.1)
   rules_at (inl (inr s)) = let a = starts_at s in (inl (inr a.0), a.1)
   rules_at (inr b) = (inr (between_over x y left right l b), between_same b)
 

@@ -3,3 +3,4 @@ pub mod Tables
 pub mod Breaks
 pub mod Owners
 pub mod Rules
+pub mod Instances

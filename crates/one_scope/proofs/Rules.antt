@@ -95,7 +95,7 @@ module _ (x y : SubjectParts) (left : IsInScope x) (right : IsInScope (beside x 
   derived_over : (given : Set) (fs : List Fact) → Derived (Rules x l) given fs → Derived (Rules z l) given fs
   derived_over given fs d = wider (Rules x l) (Rules z l) rules_over given d
 
-  pub violation_over : (P Q : List Fact → Type 0) → ((fs : List Fact) → P fs → Q fs) → (c k s : ℕ) → IsViolation x (Carries x l) l P c k s → IsViolation z (Carries z l) l Q c k s
+  unfoldable pub violation_over : (P Q : List Fact → Type 0) → ((fs : List Fact) → P fs → Q fs) → (c k s : ℕ) → IsViolation x (Carries x l) l P c k s → IsViolation z (Carries z l) l Q c k s
   unfolding slot_count
   violation_over P Q hold c k s v = record {
     state = v.state;

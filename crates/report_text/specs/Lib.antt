@@ -8,3 +8,4 @@ pub mod ListFaults
 pub mod Limits
 pub mod Refusals
 pub mod Verdicts
+pub mod Reports

@@ -1,50 +1,91 @@
 //! The heads of the reports.
-ghost use Rattle.std.specs.Prelude.{◌≡◌, ◌<◌, ◌+◌, ◌++◌, length, slice_get, slice_index_or, codes, IfOk, []};
+ghost use Rattle.std.specs.Prelude.{◌≡◌, ◌<◌, ◌+◌, ◌++◌, length, map, slice_get, slice_index_or, codes, IfOk, []};
 ghost use Rattle.app_model.specs.Components.{callbacks_of};
+ghost use Rattle.report_path.specs.Reports.{violation_of};
 ghost use Rattle.report_text.specs.Heads as spec;
 ghost use Rattle.report_text.specs.Heads.{callback_text, head_text, heads_before, no_violation, status_name, violation_text};
 
 use crate::numbers::push_decimal;
-use app_model::{App, ComponentRow, Kind, push_member};
+use crate::texts::or_starved;
+use app_model::{App, ComponentRow, Kind, Subject, push_member};
 use flow_model::Violation;
-use ns_base::LockNo;
+use ns_base::{LockNo, OutOfMemory};
+use report_path::Report;
 use std::alloc::{AllocError, Global};
 
-/// A line for each violation, in their order.
+/// The heads of some reports, in their order. Of a report its component, callback, lock field and status are looked at.
 pub fn heads_text(
     alloc: Global,
-    app: &App,
-    list: &[ComponentRow],
-    violations: &[Violation],
+    subject: &Subject,
+    reports: &[Report],
+) -> Result<Vec<u8>, OutOfMemory>
+    ensures { IfOk result (λ text. text.items ≡ spec.heads_text subject.now.app subject.now.list (map violation_of reports.now)) }
+{
+    or_starved(all_heads(alloc, subject, reports))
+}
+
+fn all_heads(
+    alloc: Global,
+    subject: &Subject,
+    reports: &[Report],
 ) -> Result<Vec<u8>, AllocError>
-    ensures { IfOk result (λ text. text.items ≡ spec.heads_text app.now list.now violations.now) }
+    ensures { IfOk result (λ text. text.items ≡ spec.heads_text subject.now.app subject.now.list (map violation_of reports.now)) }
 {
     let mut text = Vec::new(alloc);
-    for i in 0..violations.len() {
-        push_head(alloc, &mut text, app, list, violations, i)?;
+    for i in 0..reports.len() {
+        push_head(alloc, &mut text, subject, reports, i)?;
     }
     Ok(text)
 }
 
-#[tactic(auto, unfolding(crate::specs::Heads::head_text))]
-fn push_head(
+/// Adds the head of the report of that place.
+pub fn push_head(
     alloc: Global,
     text: &mut Vec<u8>,
-    app: &App,
-    list: &[ComponentRow],
-    violations: &[Violation],
+    subject: &Subject,
+    reports: &[Report],
     i: usize,
 ) -> Result<(), AllocError>
-    requires { i < length violations.now }
-    ensures { IfOk result (λ _. text.new.items ≡ text.old.items ++ head_text app.now list.now (i + 1) (length violations.now) (slice_index_or violations.now i no_violation)) }
+    requires { i < length reports.now }
+    ensures { IfOk result (λ _. text.new.items ≡ text.old.items ++ head_text subject.now.app subject.now.list (i + 1) (length (map violation_of reports.now)) (slice_index_or (map violation_of reports.now) i no_violation)) }
 {
-    let violation = violations[i];
+    let violation = violation_at(reports, i);
+    push_head_of(alloc, text, subject, i, reports.len(), violation)
+}
+
+// The violation of which the report of that place is.
+fn violation_at(reports: &[Report], i: usize) -> Violation
+    requires { i < length reports.now }
+    ensures { result ≡ slice_index_or (map violation_of reports.now) i no_violation }
+{
+    let report = &reports[i];
+    Violation {
+        component: report.component,
+        callback: report.callback,
+        lock: report.lock,
+        status: report.status,
+    }
+}
+
+// Adds the head of report i of so many, counted from 0.
+#[tactic(auto, unfolding(crate::specs::Heads::head_text))]
+fn push_head_of(
+    alloc: Global,
+    text: &mut Vec<u8>,
+    subject: &Subject,
+    i: usize,
+    count: usize,
+    violation: Violation,
+) -> Result<(), AllocError>
+    requires { i < count }
+    ensures { IfOk result (λ _. text.new.items ≡ text.old.items ++ head_text subject.now.app subject.now.list (i + 1) count violation) }
+{
     text.extend_from_slice(b"report ")?;
     push_decimal(alloc, text, i + 1)?;
     text.extend_from_slice(b" of ")?;
-    push_decimal(alloc, text, violations.len())?;
+    push_decimal(alloc, text, count)?;
     text.extend_from_slice(b": ")?;
-    push_violation(text, app, list, violation)?;
+    push_violation(text, &subject.app, &subject.list.rows, violation)?;
     text.push(b'\n')?;
     Ok(())
 }

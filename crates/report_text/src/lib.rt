@@ -1,7 +1,7 @@
 //! The texts that the program writes.
 //!
 //! - `texts` has the lines of the plain answers, and shows names.
-//! - `heads` has the heads of the reports: `heads_text`.
+//! - `heads` has the heads of the reports: `heads_text`; `reports` has them with their paths: `reports_text`.
 //! - `dex_faults`, `code_faults`, `link_faults` and `list_faults` have the refusals of files, whose numbers `numbers`
 //!   writes.
 //! - `limits` has the refusal of a count, `refusals` that of an application out of scope.
@@ -16,6 +16,7 @@ mod link_faults;
 mod list_faults;
 mod numbers;
 mod refusals;
+mod reports;
 mod texts;
 mod verdicts;
 
@@ -25,8 +26,9 @@ pub use heads::heads_text;
 pub use limits::over_limit;
 pub use link_faults::bad_link;
 pub use list_faults::bad_list;
-pub use refusals::refused;
-pub use texts::{accept, cannot_read, usage};
+pub use refusals::refusal_text;
+pub use reports::reports_text;
+pub use texts::{accept_text, cannot_read, usage_text};
 pub use verdicts::{bad_certificate, checked_text};
 
 #[cfg(test)]

@@ -5,6 +5,7 @@ ghost use Rattle.report_text.specs.Refusals.{refused_text};
 use crate::numbers::{push_decimal, push_numbers};
 use app_model::push_member;
 use scope_check::ScopeFault;
+use ns_base::OutOfMemory;
 use std::alloc::{AllocError, Global};
 
 fn push_refusal(alloc: Global, text: &mut Vec<u8>, fault: &ScopeFault) -> Result<(), AllocError>
@@ -32,10 +33,12 @@ fn push_refusal(alloc: Global, text: &mut Vec<u8>, fault: &ScopeFault) -> Result
 
 /// The rule that is broken, and where: `refused N4 CLASS->METHOD NUMBER PC`, names shown. Want of memory is no refusal, and
 /// has no text.
-pub fn refused(alloc: Global, fault: &ScopeFault) -> Result<Vec<u8>, AllocError>
+pub fn refusal_text(alloc: Global, fault: &ScopeFault) -> Result<Vec<u8>, OutOfMemory>
     ensures { IfOk result (λ text. text.items ≡ refused_text fault.now) }
 {
     let mut text = Vec::new(alloc);
-    push_refusal(alloc, &mut text, fault)?;
-    Ok(text)
+    match push_refusal(alloc, &mut text, fault) {
+        Ok(()) => Ok(text),
+        Err(AllocError) => Err(OutOfMemory),
+    }
 }

@@ -1,5 +1,5 @@
 //! Texts with bytes that are not shown as they are.
-use crate::{cannot_read, refused};
+use crate::{cannot_read, refusal_text};
 use ns_base::MethodNo;
 use scope_check::ScopeFault;
 use std::test::Fail;
@@ -28,7 +28,7 @@ fn a_refusal_names_rule_method_and_place(rt: HostRuntime) -> Result<(), Fail> {
         class_name: b"Lapp/R;".to_vec(rt.alloc())?,
         method_name: b"on Receive".to_vec(rt.alloc())?,
     };
-    let text = refused(rt.alloc(), &fault)?;
+    let text = refusal_text(rt.alloc(), &fault)?;
     assert_eq!(rt;
         text.as_slice(),
         b"refused N4 Lapp/R;->on\\x20Receive 1 5\n".as_slice()
