@@ -17,7 +17,7 @@ use Rattle.nosleep.specs.Answer.{AreJudged, AreTold, BytesComeTo, AreTakenTo, Is
 use Rattle.nosleep.specs.Judged.{IsChecked, IsJudgement, IsReceived, IsSafe, IsVerified, accepts, certified, exit_of, overlong}
 use Rattle.nosleep.specs.Refusals.{Exceeds, IsRefused, IsRefusedAs, InFile, InLink, InList, OutOfScope, Refusal, refusal_exit, refusal_limit, refusal_text}
 use Rattle.nosleep.specs.Reading.{WhereTold}
-use Rattle.nosleep.specs.Writing.{WroteAll}
+use Rattle.watchers.specs.Writing.{WroteAll}
 use Rattle.nosleep.specs.Words.{FileName, Form, Receiver, Verify, Check, dex_names, files_of, form_of}
 use Rattle.nosleep.proofs.Same.{outcome_of_judged}
 use Rattle.nosleep.proofs.Taking.{told_taken}
