@@ -104,10 +104,13 @@ fn answer_form<F: Shelf>(
     match take_files(alloc, shelf, &names, events)? {
         Taken::Fault(i) => {
             let text = cannot_read(alloc, names[i].name)?;
-            Ok(with_none(alloc, Answer {
-                exit: Exit::ReadFault,
-                text,
-            }))
+            Ok(with_none(
+                alloc,
+                Answer {
+                    exit: Exit::ReadFault,
+                    text,
+                },
+            ))
         }
         Taken::TooLong(i) => Ok(with_none(alloc, over(alloc, names[i].limit)?)),
         Taken::Whole(files) => answer_files(alloc, asked, &files),

@@ -31,8 +31,8 @@ pub fn nosleep<F: Shelf, K: Sink>(
     ensures answer { (exit : Exit) × (text : List ℕ) × (all : List Event)
         × IsAnswer (map string_bytes words.now) (F.content shelf.old) (F.faults shelf.old) (F.faults shelf.new) text exit all
         × IsEnd exit text (kinds_of (map string_bytes words.now)) all result (K.taken out.old) (K.taken out.new) (K.faults out.old) (K.faults out.new)
-            (map (λ w. seen (sort w) (events w) (faults w)) watchers.old.items)
-            (map (λ w. seen (sort w) (events w) (faults w)) watchers.new.items) }
+        (map (λ w. seen (sort w) (events w) (faults w)) watchers.old.items)
+        (map (λ w. seen (sort w) (events w) (faults w)) watchers.new.items) }
 
     // No fault is answered that the outside did not have.
     ensures read { result ≡ Exit.ReadFault → Rose (F.faults shelf.old) (F.faults shelf.new) }
@@ -58,7 +58,7 @@ pub fn nosleep<F: Shelf, K: Sink>(
         → AreTold (F.content shelf.old) form all → AreJudged form all x
         → ¬ Rose (F.faults shelf.old) (F.faults shelf.new) → ¬ Rose (K.faults out.old) (K.faults out.new)
         → ((i : ℕ) (old new : _) → slice_get watchers.old.items i ≡ Some old → slice_get watchers.new.items i ≡ Some new
-            → is_chosen (kinds_of (map string_bytes words.now)) (sort old) ≡ true → ¬ Rose (faults old) (faults new))
+        → is_chosen (kinds_of (map string_bytes words.now)) (sort old) ≡ true → ¬ Rose (faults old) (faults new))
         → Judges form result ⊎ IsStarved result }
 
     // What the shelf tells stays, and so does each watcher that was not chosen.
@@ -73,7 +73,12 @@ pub fn nosleep<F: Shelf, K: Sink>(
     match find_answer(alloc, words, shelf) {
         Err(AllocError) => Exit::Memory,
         Ok(outcome) => match write_all(out, &outcome.answer.text) {
-            Ok(()) => tell(watchers, kinds_by(outcome.options), &outcome.events, outcome.answer.exit),
+            Ok(()) => tell(
+                watchers,
+                kinds_by(outcome.options),
+                &outcome.events,
+                outcome.answer.exit,
+            ),
             Err(Failed) => Exit::WriteFault,
         },
     }

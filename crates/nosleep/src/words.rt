@@ -126,9 +126,21 @@ fn rest_of(options: Options, words: &[String]) -> Option<Behind<'_>>
             names: words,
         })
     } else if word.as_str() == "--json" && !options.json {
-        rest_of(Options { json: true, count: options.count }, rest)
+        rest_of(
+            Options {
+                json: true,
+                count: options.count,
+            },
+            rest,
+        )
     } else if word.as_str() == "--count" && !options.count {
-        rest_of(Options { json: options.json, count: true }, rest)
+        rest_of(
+            Options {
+                json: options.json,
+                count: true,
+            },
+            rest,
+        )
     } else {
         None
     }
