@@ -1,20 +1,26 @@
 -- From what came of reading the files of a form to the answer.
-use Rattle.std.proofs.Common.{◌≡◌, ◌<◌, ◌≤◌, ℕ, zero, suc, Bool, true, false, if◌then◌else◌, List, [], ◌∷◌, length, map, Vec, Global, Option, Some, None, option_map, Result, Ok, Err, IfOk, slice_get, get_or, sym, ap, subst, refl, ◌∙◌, arith}
+use Rattle.std.proofs.Common.{◌≡◌, ◌<◌, ◌≤◌, ℕ, zero, suc, Bool, true, false, if◌then◌else◌, List, [], ◌∷◌, length, map, Vec, Global, Option, Some, None, option_and_then, option_map, Result, Ok, Err, IfOk, slice_get, get_or, sym, ap, subst, refl, ◌∙◌, arith}
 use Rattle.std.proofs.lemmas.List.{length-map}
 use Rattle.std.proofs.lemmas.Option.{get_or_from_slice_get, slice_get-get_or, slice_get-map}
 use Rattle.ns_base.specs.Answers.{limit_of}
 use Rattle.ns_base.specs.Outside.{Rose}
 use Rattle.ns_base.specs.declared.answers.Counted.TheVariants.{Files}
+use Rattle.ns_base.specs.declared.answers.Event.{Event}
 use Rattle.ns_base.specs.declared.answers.Exit.{Exit}
 use Rattle.ns_base.specs.declared.answers.Exit.TheVariants as exits
+use Rattle.flow_model.specs.declared.policy.Violation.{Violation}
+use Rattle.report_text.specs.Limits.{over_limit_text}
 use Rattle.report_text.specs.Texts.{cannot_read_text, usage_text}
+use Rattle.nosleep.specs.declared.judging.Judged.{Judged}
 use Rattle.nosleep.specs.declared.refusing.Answer.{Answer}
+use Rattle.nosleep.specs.declared.words.Options.{Options}
 use Rattle.nosleep.specs.Answer.{AreTakenTo, IsAnswer, many_files, read, too_long, unread, usage}
+use Rattle.nosleep.specs.Events.{ended_by, reads_from}
 use Rattle.nosleep.specs.Files.{AreSmall}
 use Rattle.nosleep.specs.Outcome.{FormHasOutcome, judged_files}
 use Rattle.nosleep.specs.Refusals.{IsOver}
 use Rattle.nosleep.specs.Taking.{IsTooLong, StopsAt}
-use Rattle.nosleep.specs.Words.{FileName, Form, Receiver, Verify, Check, check_of, dex_file, list_file, dex_names, files_of, form_of, receiver_of, verify_of}
+use Rattle.nosleep.specs.Words.{FileName, Form, Receiver, Verify, Check, Request, Rest, check_of, dex_file, list_file, dex_names, files_of, form_of, named_form, receiver_of, request_of, rest_of, verify_of, with_options}
 
 -- no list and no DEX file of a form may be longer than a DEX file may
 in_files : (names : List (List ℕ)) (i : ℕ) → i < length (map dex_file names) → (d : FileName) → limit_of (get_or (map dex_file names) i d).limit ≤ 33554432
@@ -86,25 +92,48 @@ in_receiver dex [] = in_none
 in_receiver dex (class ∷ []) = in_one (Receiver dex class) (omega arith)
 in_receiver dex (class ∷ word ∷ words) = in_none
 
-pub names_some : (words : List (List ℕ)) → NamesSome (form_of words)
-names_some [] = in_none
-names_some (form ∷ []) = in_none
-names_some (form ∷ first ∷ rest) =
-    in_either _ _ _ in_none (in_either _ _ _ (in_verify first rest) (in_either _ _ _ (in_check first rest) (in_either _ _ _ (in_receiver first rest) in_none)))
+in_named : (form : List ℕ) (names : List (List ℕ)) → NamesSome (named_form form names)
+in_named form [] = in_none
+in_named form (first ∷ rest) = in_either _ _ _ (in_verify first rest) (in_either _ _ _ (in_check first rest) (in_either _ _ _ (in_receiver first rest) in_none))
+
+pub names_some : (words : List (List ℕ)) (request : Request) → Some request ≡ request_of words → 0 < length (dex_names request.form)
+names_some [] request is = absurd (let no : ⊥ = cc in no)
+names_some (form ∷ words) request is = by_rest (rest_of false false words) is where
+  by_form : (options : Options) (o : Option Form) → NamesSome o → Some request ≡ option_map (with_options options) o → 0 < length (dex_names request.form)
+  by_form options None some e = absurd (let no : ⊥ = cc in no)
+  by_form options (Some other) some e = let same : with_options options other ≡ request = cc in subst (λ (r : Request). 0 < length (dex_names r.form)) same (some other refl)
+
+  by_rest : (o : Option Rest) → Some request ≡ option_and_then (λ rest. option_map (with_options rest.options) (named_form form rest.names)) o → 0 < length (dex_names request.form)
+  by_rest None e = absurd (let no : ⊥ = cc in no)
+  by_rest (Some rest) e = by_form rest.options (named_form form rest.names) (in_named form rest.names) e
+
+-- a form has at most two files more than DEX files
+pub few_names : (form : Form) → length (dex_names form) ≤ limit_of Files → length (files_of form) ≤ 18
+few_names (Receiver dex class) few = omega arith
+few_names (Verify list files) few = omega (arith, few, length-map files dex_file)
+few_names (Check cert list files) few = omega (arith, few, length-map files dex_file)
 
 module _ (words : List (List ℕ)) (content : List ℕ → Option (List ℕ)) (before now : ℕ) where
-  -- an answer of this text and exit
-  as_is : (text wanted : List ℕ) (exit by : Exit) → text ≡ wanted → exit ≡ by → IsAnswer words content before now wanted by → IsAnswer words content before now text exit
-  as_is text wanted exit by same_text same_exit is =
-      subst (λ (t : List ℕ). IsAnswer words content before now t exit) (sym same_text) (subst (λ (k : Exit). IsAnswer words content before now wanted k) (sym same_exit) is)
+  pub formless : (text : List ℕ) (events : List Event) → None ≡ request_of words → text ≡ usage_text → events ≡ [] → IsAnswer words content before now text exits.Usage events
+  formless text events none is quiet =
+      subst (λ (t : List ℕ). IsAnswer words content before now t exits.Usage events) (sym is)
+      (subst (λ (es : List Event). IsAnswer words content before now usage_text exits.Usage es) (sym quiet) (usage (ap (λ (o : Option Request). option_map (λ (r : Request). r.form) o) (sym none))))
 
-  pub formless : (text : List ℕ) → None ≡ form_of words → text ≡ usage_text → IsAnswer words content before now text exits.Usage
-  formless text none is = as_is text usage_text exits.Usage exits.Usage is refl (usage (sym none))
+  -- an answer after these events of reading
+  abbrev IsAfter : List Event → Answer → List Violation → Type 0
+  IsAfter reads a found = IsAnswer words content before now a.text.items a.exit (ended_by reads found a.exit)
 
-  module _ (form : Form) (asked : Some form ≡ form_of words) where
-    pub too_many : {E : Type 0} (r : Result Answer E) → limit_of Files < length (dex_names form) → IfOk r (λ a. IsOver Files a.text.items a.exit) → IfOk r (λ a. IsAnswer words content before now a.text.items a.exit)
-    too_many (Ok a) many over = as_is _ _ _ _ over.1 over.0 (many_files form (sym asked) many)
-    too_many (Err e) many over = tt
+  as_is : (text wanted : List ℕ) (exit by : Exit) (reads : List Event) → text ≡ wanted → exit ≡ by → IsAnswer words content before now wanted by (ended_by reads [] by) → IsAnswer words content before now text exit (ended_by reads [] exit)
+  as_is text wanted exit by reads same_text same_exit is =
+      subst (λ (t : List ℕ). IsAnswer words content before now t exit (ended_by reads [] exit)) (sym same_text) (subst (λ (k : Exit). IsAnswer words content before now wanted k (ended_by reads [] k)) (sym same_exit) is)
+
+  module _ (form : Form) (asked : form_of words ≡ Some form) (j : Judged) (a : Answer) (same_answer : j.answer ≡ a) (none : j.found.items ≡ []) where
+    with_none : (reads : List Event) → IsAfter reads a [] → IsAfter reads j.answer j.found.items
+    with_none reads is = subst (λ (found : List Violation). IsAfter reads j.answer found) (sym none) (subst (λ (b : Answer). IsAfter reads b []) (sym same_answer) is)
+
+    pub too_many : (reads : List Event) → limit_of Files < length (dex_names form) → IsOver Files a.text.items a.exit → reads ≡ [] → IsAfter reads j.answer j.found.items
+    too_many reads many over quiet =
+        with_none reads (as_is _ _ _ _ reads over.1 over.0 (subst (λ (es : List Event). IsAnswer words content before now (over_limit_text Files) exits.Limit (ended_by es [] exits.Limit)) (sym quiet) (many_files form asked many)))
 
     module _ (few : length (dex_names form) ≤ limit_of Files) (files : List FileName) (same : files ≡ files_of form) where
       named : (i : ℕ) (file other : FileName) → slice_get files i ≡ Some file → other ≡ get_or files i other → other ≡ file
@@ -116,21 +145,26 @@ module _ (words : List (List ℕ)) (content : List ℕ → Option (List ℕ)) (b
       taken_of : (i : ℕ) (all : List (List ℕ)) → AreTakenTo content files i all → AreTakenTo content (files_of form) i all
       taken_of i all taken = subst (λ (fs : List FileName). AreTakenTo content fs i all) same taken
 
-      pub stopped_failed : (i : ℕ) (other : FileName) (text : List ℕ) → StopsAt content files i (λ file. Rose before now) → other ≡ get_or files i other → text ≡ cannot_read_text other.name
-          → IsAnswer words content before now text exits.ReadFault
-      stopped_failed i other text stops is wrote =
-          as_is text (cannot_read_text stops.file.name) exits.ReadFault exits.ReadFault (wrote ∙ ap (λ (f : FileName). cannot_read_text f.name) (named i stops.file other stops.there is)) refl
-          (unread form i stops.file stops.all (sym asked) few (of_form i stops.file stops.there) (taken_of i stops.all stops.taken) stops.why)
+      pub stopped_failed : (i : ℕ) (other : FileName) (reads : List Event) → StopsAt content files i reads (λ file. Rose before now) → other ≡ get_or files i other → a.text.items ≡ cannot_read_text other.name → a.exit ≡ exits.ReadFault
+          → IsAfter reads j.answer j.found.items
+      stopped_failed i other reads stops is wrote ends =
+          let text = wrote ∙ ap (λ (f : FileName). cannot_read_text f.name) (named i stops.file other stops.there is) in
+          let own = unread form i stops.file stops.all asked few (of_form i stops.file stops.there) (taken_of i stops.all stops.taken) stops.why in
+          with_none reads
+          (as_is _ _ _ _ reads text ends (subst (λ (es : List Event). IsAnswer words content before now (cannot_read_text stops.file.name) exits.ReadFault (ended_by es [] exits.ReadFault)) (sym stops.told) own))
 
-      pub stopped_long : {E : Type 0} (i : ℕ) (other : FileName) (r : Result Answer E) → StopsAt content files i (IsTooLong content) → other ≡ get_or files i other
-          → IfOk r (λ a. IsOver other.limit a.text.items a.exit) → IfOk r (λ a. IsAnswer words content before now a.text.items a.exit)
-      stopped_long i other (Ok a) stops is over =
+      pub stopped_long : (i : ℕ) (other : FileName) (reads : List Event) → StopsAt content files i reads (IsTooLong content) → other ≡ get_or files i other → IsOver other.limit a.text.items a.exit
+          → IsAfter reads j.answer j.found.items
+      stopped_long i other reads stops is over =
           let o = subst (λ (f : FileName). IsOver f.limit a.text.items a.exit) (named i stops.file other stops.there is) over in
-          as_is _ _ _ _ o.1 o.0 (too_long form i stops.file stops.all (sym asked) few (of_form i stops.file stops.there) (taken_of i stops.all stops.taken) stops.why)
-      stopped_long i other (Err e) stops is over = tt
+          let own = too_long form i stops.file stops.all asked few (of_form i stops.file stops.there) (taken_of i stops.all stops.taken) stops.why in
+          with_none reads
+          (as_is _ _ _ _ reads o.1 o.0 (subst (λ (es : List Event). IsAnswer words content before now (over_limit_text stops.file.limit) exits.Limit (ended_by es [] exits.Limit)) (sym stops.told) own))
 
-      pub all_read : {E : Type 0} (all : List (List ℕ)) (r : Result Answer E) → AreTakenTo content files (length files) all → IfOk r (λ a. FormHasOutcome form all a.text.items a.exit)
-          → IfOk r (λ a. IsAnswer words content before now a.text.items a.exit)
-      all_read all (Ok a) taken outcome =
-          read form all outcome.0 a.text.items a.exit (sym asked) few (subst (λ (fs : List FileName). AreTakenTo content fs (length fs) all) same taken) outcome.1 outcome.2
-      all_read all (Err e) taken outcome = tt
+  pub all_read : {E : Type 0} (form : Form) (files : List FileName) (all : List (List ℕ)) (r : Result Judged E) (reads : List Event) → form_of words ≡ Some form → length (dex_names form) ≤ limit_of Files → files ≡ files_of form
+      → AreTakenTo content files (length files) all → reads ≡ reads_from 0 all → IfOk r (λ j. FormHasOutcome form all j.answer.text.items j.answer.exit j.found.items)
+      → IfOk r (λ j. IsAfter reads j.answer j.found.items)
+  all_read form files all (Ok j) reads asked few same taken told outcome =
+      subst (λ (es : List Event). IsAfter es j.answer j.found.items) (sym told)
+      (read form all outcome.0 j.answer.text.items j.answer.exit j.found.items asked few (subst (λ (fs : List FileName). AreTakenTo content fs (length fs) all) same taken) outcome.1 outcome.2 outcome.3)
+  all_read form files all (Err e) reads asked few same taken told outcome = tt

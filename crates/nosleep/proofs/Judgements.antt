@@ -1,5 +1,5 @@
 -- From the answer to why it comes.
-use Rattle.std.proofs.Common.{◌≡◌, ◌≢◌, IfOk, ℕ, ◌<◌, Bool, true, false, List, [], ◌∷◌, length, Option, Some, None, Result, Ok, Err, ◌⊎◌, inl, inr, ⊎_elim, refl, ◌∙◌, ap, sym, subst, arith, slice_get, get_or}
+use Rattle.std.proofs.Common.{◌≡◌, ◌≢◌, IfOk, ℕ, ◌<◌, Bool, true, false, List, [], ◌∷◌, length, Option, Some, None, option_map, Result, Ok, Err, ◌⊎◌, inl, inr, ⊎_elim, refl, ◌∙◌, ap, sym, subst, arith, slice_get, get_or}
 use Rattle.std.proofs.lemmas.Bool.{false≢true}
 use Rattle.std.proofs.lemmas.Option.{slice_get-get_or, slice_get_within}
 use Rattle.ns_base.specs.Answers.{limit_of}
@@ -11,14 +11,14 @@ use Rattle.ns_base.specs.declared.answers.Exit.TheVariants as exits
 use Rattle.app_model.specs.Subject.{SubjectParts}
 use Rattle.cert_check.specs.declared.verdict.Checked.{Checked}
 use Rattle.cert_check.specs.declared.verdict.Checked.TheVariants.{Valid, ListDigest, DexDigest, Shape, Broken, Unmet}
-use Rattle.nosleep.specs.declared.refusing.Answer.{Answer}
+use Rattle.ns_base.specs.declared.answers.Event.{Event}
+use Rattle.nosleep.specs.declared.judging.Judged.{Judged}
 use Rattle.nosleep.specs.Outcome.{FormHasOutcome}
-use Rattle.nosleep.specs.Answer.{AreJudged, AreTold, BytesComeTo, AreTakenTo, IsAnswer, IsExact, IsFailure, IsOutcome, Judges, usage, many_files, unread, too_long, read, starved}
+use Rattle.nosleep.specs.Answer.{AreJudged, AreTold, BytesComeTo, AreTakenTo, IsAnswer, IsOutcome, IsUnjudged, Judges, usage, many_files, unread, too_long, read, starved}
 use Rattle.nosleep.specs.Judged.{IsChecked, IsJudgement, IsReceived, IsSafe, IsVerified, accepts, certified, exit_of, overlong}
 use Rattle.nosleep.specs.Refusals.{Exceeds, IsRefused, IsRefusedAs, InFile, InLink, InList, OutOfScope, Refusal, refusal_exit, refusal_limit, refusal_text}
 use Rattle.nosleep.specs.Reading.{WhereTold}
-use Rattle.nosleep.specs.Writing.{WroteAll}
-use Rattle.nosleep.specs.Words.{FileName, Form, Receiver, Verify, Check, dex_names, files_of, form_of}
+use Rattle.nosleep.specs.Words.{FileName, Form, Receiver, Verify, Check, Request, dex_names, files_of, form_of, kinds_in, kinds_of, request_of}
 use Rattle.nosleep.proofs.Same.{outcome_of_judged}
 use Rattle.nosleep.proofs.Taking.{told_taken}
 
@@ -62,7 +62,7 @@ verdict_exit (Shape l) = inr refl
 verdict_exit (Broken rule l a b c) = inr refl
 verdict_exit (Unmet c k l s) = inr refl
 
-judgement_exit : (form : Form) (all : List (List ℕ)) (x : SubjectParts) (text : List ℕ) (exit : Exit) → IsJudgement form all x text exit → Judges form exit
+pub judgement_exit : (form : Form) (all : List (List ℕ)) (x : SubjectParts) (text : List ℕ) (exit : Exit) → IsJudgement form all x text exit → Judges form exit
 judgement_exit (Receiver dex class) all x text exit (IsReceived.reports has e) = inr e
 judgement_exit (Receiver dex class) all x text exit (accepts t is e) = inl e
 judgement_exit (Verify list dex) [] x text exit never = absurd never
@@ -98,6 +98,11 @@ judgement_safe (Check cert list dex) (one ∷ bytes ∷ files) x text exit here 
 accepted_safe : (form : Form) (all : List (List ℕ)) (r : Result SubjectParts Refusal) (text : List ℕ) → BytesComeTo form all r → IsOutcome form all r text exits.Accept → (x : SubjectParts) × (r ≡ Ok x) × IsSafe x
 accepted_safe form all (Ok x) text comes is = (x, refl, judgement_safe form all x text exits.Accept refl (form_outcome form all (Ok x) x text exits.Accept comes comes is))
 accepted_safe form all (Err refusal) text comes is = absurd (not_accepted (refused_exit refusal text exits.Accept is))
+
+-- words with no form choose no kind
+formless_kinds : (o : Option Request) → ◌≡◌ {A = Option Form} (option_map (λ (request : Request). request.form) o) None → kinds_in o ≡ []
+formless_kinds None none = refl
+formless_kinds (Some request) none = absurd (let no : ⊥ = cc in no)
 
 -- ---- what bytes come to is neither a fault of the outside nor want of memory
 abbrev pub is_told : Exit → Bool
@@ -136,27 +141,68 @@ outcome_exit form all (Err refusal) text exit comes is = told_refused exit (refu
 pub untold : (other : Exit) → is_told other ≡ false → (form : Form) (all : List (List ℕ)) (r : Result SubjectParts Refusal) (text : List ℕ) (exit : Exit) → BytesComeTo form all r → IsOutcome form all r text exit → exit ≡ other → ⊥
 untold other none form all r text exit comes is e = false≢true (sym none ∙ ap is_told (sym e) ∙ outcome_exit form all r text exit comes is)
 
-pub all_judged : {E : Type 0} (form : Form) (all : List (List ℕ)) (r : Result Answer E) → IfOk r (λ a. FormHasOutcome form all a.text.items a.exit) → IfOk r (λ a. a.exit ≢ exits.Memory)
-all_judged form all (Ok a) o = λ e. untold exits.Memory refl form all o.0 a.text.items a.exit o.1 o.2 e
+pub all_judged : {E : Type 0} (form : Form) (all : List (List ℕ)) (r : Result Judged E) → IfOk r (λ j. FormHasOutcome form all j.answer.text.items j.answer.exit j.found.items) → IfOk r (λ j. j.answer.exit ≢ exits.Memory)
+all_judged form all (Ok j) o = λ e. untold exits.Memory refl form all o.0 j.answer.text.items j.answer.exit o.1 o.2 e
 all_judged form all (Err e) o = tt
+
+-- nor what comes after the text is written
+abbrev pub is_answered : Exit → Bool
+is_answered exits.Accept = true
+is_answered exits.Reports = true
+is_answered exits.Bad = true
+is_answered exits.Scope = true
+is_answered exits.Limit = true
+is_answered exits.Usage = true
+is_answered exits.ReadFault = true
+is_answered exits.WriteFault = false
+is_answered exits.WatcherFault = false
+is_answered exits.Memory = true
+is_answered exits.Broken = true
+is_answered exits.Partly = false
+
+untold_after : (exit : Exit) → is_answered exit ≡ false → is_told exit ≡ false
+untold_after exits.Accept no = absurd (false≢true (sym no))
+untold_after exits.Reports no = absurd (false≢true (sym no))
+untold_after exits.Bad no = absurd (false≢true (sym no))
+untold_after exits.Scope no = absurd (false≢true (sym no))
+untold_after exits.Limit no = absurd (false≢true (sym no))
+untold_after exits.Usage no = refl
+untold_after exits.ReadFault no = refl
+untold_after exits.WriteFault no = refl
+untold_after exits.WatcherFault no = refl
+untold_after exits.Memory no = refl
+untold_after exits.Broken no = absurd (false≢true (sym no))
+untold_after exits.Partly no = refl
 
 -- ---- from the answer to words and files to why it comes
 module _ (words : List (List ℕ)) (content : List ℕ → Option (List ℕ)) (before now : ℕ) where
-  pub read_cause : (text : List ℕ) (exit : Exit) → IsAnswer words content before now text exit → exit ≡ exits.ReadFault → Rose before now
-  read_cause _ _ (usage none) e = absurd (let no : ⊥ = cc in no)
-  read_cause _ _ (many_files form is many) e = absurd (let no : ⊥ = cc in no)
-  read_cause _ _ (unread form i file bytes is few there taken rose) e = rose
-  read_cause _ _ (too_long form i file bytes is few there taken long) e = absurd (let no : ⊥ = cc in no)
-  read_cause _ _ (read form bytes r text exit is few taken c o) e = absurd (untold exits.ReadFault refl form bytes r text exit c o e)
-  read_cause _ _ starved e = absurd (let no : ⊥ = cc in no)
+  pub read_cause : (text : List ℕ) (exit : Exit) (all : List Event) → IsAnswer words content before now text exit all → exit ≡ exits.ReadFault → Rose before now
+  read_cause _ _ _ (usage none) e = absurd (let no : ⊥ = cc in no)
+  read_cause _ _ _ (many_files form is many) e = absurd (let no : ⊥ = cc in no)
+  read_cause _ _ _ (unread form i file bytes is few there taken rose) e = rose
+  read_cause _ _ _ (too_long form i file bytes is few there taken long) e = absurd (let no : ⊥ = cc in no)
+  read_cause _ _ _ (read form bytes r text exit found is few taken c o h) e = absurd (untold exits.ReadFault refl form bytes r text exit c o e)
+  read_cause _ _ _ starved e = absurd (let no : ⊥ = cc in no)
 
-  pub not_write : (text : List ℕ) (exit : Exit) → IsAnswer words content before now text exit → exit ≡ exits.WriteFault → ⊥
-  not_write _ _ (usage none) e = cc
-  not_write _ _ (many_files form is many) e = cc
-  not_write _ _ (unread form i file bytes is few there taken rose) e = cc
-  not_write _ _ (too_long form i file bytes is few there taken long) e = cc
-  not_write _ _ (read form bytes r text exit is few taken c o) e = untold exits.WriteFault refl form bytes r text exit c o e
-  not_write _ _ starved e = cc
+  -- words with no form choose no watcher
+  pub none_chosen : (text : List ℕ) (exit : Exit) (all : List Event) → IsAnswer words content before now text exit all → exit ≡ exits.Usage → kinds_of words ≡ []
+  none_chosen _ _ _ (usage none) e = formless_kinds (request_of words) none
+  none_chosen _ _ _ (many_files form is many) e = absurd (let no : ⊥ = cc in no)
+  none_chosen _ _ _ (unread form i file bytes is few there taken rose) e = absurd (let no : ⊥ = cc in no)
+  none_chosen _ _ _ (too_long form i file bytes is few there taken long) e = absurd (let no : ⊥ = cc in no)
+  none_chosen _ _ _ (read form bytes r text exit found is few taken c o h) e = absurd (untold exits.Usage refl form bytes r text exit c o e)
+  none_chosen _ _ _ starved e = absurd (let no : ⊥ = cc in no)
+
+  answered : (text : List ℕ) (exit : Exit) (all : List Event) (other : Exit) → is_answered other ≡ false → IsAnswer words content before now text exit all → exit ≡ other → is_answered exit ≡ true
+  answered _ _ _ other no (usage none) e = refl
+  answered _ _ _ other no (many_files form is many) e = refl
+  answered _ _ _ other no (unread form i file bytes is few there taken rose) e = refl
+  answered _ _ _ other no (too_long form i file bytes is few there taken long) e = refl
+  answered _ _ _ other no (read form bytes r text exit found is few taken c o h) e = absurd (untold other (untold_after other no) form bytes r text exit c o e)
+  answered _ _ _ other no starved e = refl
+
+  pub not_after : (other : Exit) → is_answered other ≡ false → (text : List ℕ) (exit : Exit) (all : List Event) → IsAnswer words content before now text exit all → exit ≡ other → ⊥
+  not_after other no text exit all is e = false≢true (sym no ∙ ap is_answered (sym e) ∙ answered text exit all other no is e)
 
 abbrev pub AreTakenOf : (List ℕ → Option (List ℕ)) → Form → List (List ℕ) → Type 0
 AreTakenOf content form bytes = AreTakenTo content (files_of form) (length (files_of form)) bytes
@@ -173,15 +219,15 @@ module _ (words : List (List ℕ)) (content : List ℕ → Option (List ℕ)) (b
       subst (λ (b : List (List ℕ)). BytesComeTo form b r) (told_taken content form bytes all t told) (subst (λ (f : Form). BytesComeTo f bytes r) same c)
 
   -- what is accepted is safe
-  pub accepted : (text : List ℕ) (exit : Exit) → exit ≡ exits.Accept → IsAnswer words content before now text exit → (x : SubjectParts) × AreJudged form all x × IsSafe x
-  accepted _ _ same (usage none) = absurd (let no : ⊥ = cc in no)
-  accepted _ _ same (many_files other e many) = absurd (let no : ⊥ = cc in no)
-  accepted _ _ same (unread other i file bytes e few there taken rose) = absurd (let no : ⊥ = cc in no)
-  accepted _ _ same (too_long other i file bytes e few there taken long) = absurd (let no : ⊥ = cc in no)
-  accepted _ _ same (read other bytes r text exit e few taken c o) =
+  pub accepted : (text : List ℕ) (exit : Exit) (events : List Event) → exit ≡ exits.Accept → IsAnswer words content before now text exit events → (x : SubjectParts) × AreJudged form all x × IsSafe x
+  accepted _ _ _ same (usage none) = absurd (let no : ⊥ = cc in no)
+  accepted _ _ _ same (many_files other e many) = absurd (let no : ⊥ = cc in no)
+  accepted _ _ _ same (unread other i file bytes e few there taken rose) = absurd (let no : ⊥ = cc in no)
+  accepted _ _ _ same (too_long other i file bytes e few there taken long) = absurd (let no : ⊥ = cc in no)
+  accepted _ _ _ same (read other bytes r text exit found e few taken c o h) =
       let safe = accepted_safe other bytes r text c (subst (λ (k : Exit). IsOutcome other bytes r text k) same o) in
       (safe.0, answered_bytes other bytes (Ok safe.0) (same_form other e) taken (subst (λ (s : Result SubjectParts Refusal). BytesComeTo other bytes s) safe.1 c), safe.2)
-  accepted _ _ same starved = absurd (let no : ⊥ = cc in no)
+  accepted _ _ _ same starved = absurd (let no : ⊥ = cc in no)
 
   -- no file is too long
   no_long : (i : ℕ) (file : FileName) → slice_get (files_of form) i ≡ Some file → WhereTold (content file.name) (λ bs. limit_of file.limit < length bs) → ⊥
@@ -202,26 +248,19 @@ module _ (words : List (List ℕ)) (content : List ℕ → Option (List ℕ)) (b
         let outcome = subst (λ (b : List (List ℕ)). IsOutcome form b r text exit) these (subst (λ (f : Form). IsOutcome f bytes r text exit) here o) in
         form_outcome form all r x text exit judges (answered_bytes other bytes r here taken c) outcome
 
-    pub exact_of : (text : List ℕ) (exit : Exit) → IsAnswer words content before now text exit → IsFailure exit ⊎ IsJudgement form all x text exit
-    exact_of _ _ (usage none) = absurd (let no : ⊥ = cc in no)
-    exact_of _ _ (many_files other e many) = absurd (let less = told.few in let more = subst (λ (f : Form). limit_of Files < length (dex_names f)) (same_form other e) many in omega (arith, less, more))
-    exact_of _ _ (unread other i file bytes e few there taken rose) = inl (inl refl)
-    exact_of _ _ (too_long other i file bytes e few there taken long) =
+    pub exact_of : (text : List ℕ) (exit : Exit) (events : List Event) → IsAnswer words content before now text exit events → IsUnjudged exit ⊎ IsJudgement form all x text exit
+    exact_of _ _ _ (usage none) = absurd (let no : ⊥ = cc in no)
+    exact_of _ _ _ (many_files other e many) = absurd (let less = told.few in let more = subst (λ (f : Form). limit_of Files < length (dex_names f)) (same_form other e) many in omega (arith, less, more))
+    exact_of _ _ _ (unread other i file bytes e few there taken rose) = inl (inl refl)
+    exact_of _ _ _ (too_long other i file bytes e few there taken long) =
         let at = subst (λ (f : Form). slice_get (files_of f) i ≡ Some file) (same_form other e) there in
         absurd (no_long i file at long)
-    exact_of _ _ (read other bytes r text exit e few taken c o) = inr (judged_so other bytes r text exit e taken c o)
-    exact_of _ _ starved = inl (inr (inr refl))
+    exact_of _ _ _ (read other bytes r text exit found e few taken c o h) = inr (judged_so other bytes r text exit e taken c o)
+    exact_of _ _ _ starved = inl (inr refl)
 
-    pub judged_exit : ¬ Rose before now → (text : List ℕ) (exit : Exit) → IsAnswer words content before now text exit → Judges form exit ⊎ (exit ≡ exits.Memory)
-    judged_exit quiet text exit answer = by (exact_of text exit answer) where
-      by : IsFailure exit ⊎ IsJudgement form all x text exit → Judges form exit ⊎ (exit ≡ exits.Memory)
+    pub judged_exit : ¬ Rose before now → (text : List ℕ) (exit : Exit) (events : List Event) → IsAnswer words content before now text exit events → Judges form exit ⊎ (exit ≡ exits.Memory)
+    judged_exit quiet text exit events answer = by (exact_of text exit events answer) where
+      by : IsUnjudged exit ⊎ IsJudgement form all x text exit → Judges form exit ⊎ (exit ≡ exits.Memory)
       by (inr j) = inl (judgement_exit form all x text exit j)
-      by (inl (inl e)) = absurd (quiet (read_cause words content before now text exit answer e))
-      by (inl (inr (inl e))) = absurd (not_write words content before now text exit answer e)
-      by (inl (inr (inr e))) = inr e
-
--- what was written of a judgement
-pub wrote_exact : (form : Form) (all : List (List ℕ)) (x : SubjectParts) (text : List ℕ) (exit : Exit) (before now : Option (List ℕ)) → WroteAll before now text → IsFailure exit ⊎ IsJudgement form all x text exit
-    → IsFailure exit ⊎ IsExact form all x exit before now
-wrote_exact form all x text exit before now wrote (inl failed) = inl failed
-wrote_exact form all x text exit before now wrote (inr judgement) = inr (text, judgement, wrote)
+      by (inl (inl e)) = absurd (quiet (read_cause words content before now text exit events answer e))
+      by (inl (inr e)) = inr e

@@ -9,7 +9,7 @@ use Rattle.nosleep.specs.Reading.{IsFront, WhereTold, HasTurn, HasEnding}
 use Rattle.nosleep.specs.declared.reading.Ending.{Ending}
 use Rattle.nosleep.specs.declared.reading.Ending.TheVariants.{Whole, TooLong, Fault}
 use Rattle.nosleep.specs.declared.reading.Turn.TheVariants.{Last}
-use Rattle.nosleep.specs.Writing.{WroteAll}
+use Rattle.watchers.specs.Writing.{WroteAll}
 
 -- a read right behind a front of the file, added to it, makes a longer front
 pub IsFront-read : (file : Option (List ℕ)) (bs old new buffer : List ℕ) (at n : ℕ) → file ≡ Some bs → IsRead file at buffer n → at ≡ length old → new ≡ old ++ take n buffer → IsFront old bs → IsFront new bs

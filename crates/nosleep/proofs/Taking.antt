@@ -1,8 +1,11 @@
 -- Files whose bytes were taken, one by one, and those whose bytes are told.
-use Rattle.std.proofs.Common.{◌≡◌, ℕ, ◌+◌, List, [], ◌∷◌, ◌++◌, length, Option, Some, ⊎_elim, sym, ap, subst, refl, ◌∙◌, arith, length-append, slice_get, get_or}
+use Rattle.std.proofs.Common.{◌≡◌, ℕ, suc, ◌+◌, List, [], ◌∷◌, ◌++◌, length, Option, Some, ⊎_elim, sym, ap, subst, refl, ◌∙◌, arith, length-append, slice_get, get_or}
 use Rattle.std.proofs.lemmas.Option.{slice_get-get_or, slice_get_within}
 use Rattle.ns_base.specs.Outside.{Rose}
+use Rattle.ns_base.specs.declared.answers.Event.{Event}
+use Rattle.ns_base.specs.declared.answers.Event.TheVariants.{Read}
 use Rattle.nosleep.specs.Answer.{AreTakenTo, AreTold, IsTaken}
+use Rattle.nosleep.specs.Events.{reads_from}
 use Rattle.nosleep.specs.Reading.{HasEnding, KeepsShelf}
 use Rattle.nosleep.specs.Taking.{IsTooLong, StopsAt}
 use Rattle.nosleep.specs.declared.reading.Ending.TheVariants.{Whole, TooLong}
@@ -42,14 +45,27 @@ pub keeps_next : {F : Type 0} (content : F → List ℕ → Option (List ℕ)) (
     → KeepsShelf content faults old new
 keeps_next content faults old between new first next = record { same = λ n. next.same n ∙ first.same n; later = omega (arith, first.later, next.later) }
 
+-- one more event of reading
+reads_more : (n : ℕ) (files : List (List ℕ)) (bytes : List ℕ) → reads_from n (files ++ bytes ∷ []) ≡ reads_from n files ++ Read (n + length files) (length bytes) ∷ []
+reads_more n [] bytes = ap (λ (k : ℕ). Read k (length bytes) ∷ []) (let e : n ≡ n + 0 = omega arith in e)
+reads_more n (file ∷ files) bytes =
+    let next : suc n + length files ≡ n + suc (length files) = omega arith in
+    ap (λ (es : List Event). Read n (length file) ∷ es) (reads_more (suc n) files bytes ∙ ap (λ (k : ℕ). reads_from (suc n) files ++ Read k (length bytes) ∷ []) next)
+
+pub next_read : (events : List Event) (files : List (List ℕ)) (bytes : List ℕ) (k m : ℕ) → events ≡ reads_from 0 files → k ≡ length files → m ≡ length bytes → events ++ Read k m ∷ [] ≡ reads_from 0 (files ++ bytes ∷ [])
+next_read events files bytes k m told same len =
+    ap (λ (es : List Event). es ++ Read k m ∷ []) told ∙ ap (λ (j : ℕ). reads_from 0 files ++ Read j m ∷ []) same ∙ ap (λ (j : ℕ). reads_from 0 files ++ Read (length files) j ∷ []) len
+    ∙ sym (reads_more 0 files bytes)
+
 -- a file whose reading stops
 module _ {F : Type 0} (content : F → List ℕ → Option (List ℕ)) (faults : F → ℕ) (old between new : F) (files : List FileName) (i : ℕ) (all : List (List ℕ)) (file : FileName)
     (keeps : KeepsShelf content faults old between) (taken : AreTakenTo (content old) files i all) (there : slice_get files i ≡ Some file) where
-  pub stops_long : HasEnding file.limit (content between file.name) [] (faults between) (faults new) TooLong → StopsAt (content old) files i (IsTooLong (content old))
-  stops_long long = record { file = file; there = there; all = all; taken = taken; why = λ bs told. long bs (keeps.same file.name ∙ told) }
+  pub stops_long : (events : List Event) → events ≡ reads_from 0 all → HasEnding file.limit (content between file.name) [] (faults between) (faults new) TooLong
+      → StopsAt (content old) files i events (IsTooLong (content old))
+  stops_long events told long = record { file = file; there = there; all = all; taken = taken; told = told; why = λ bs is. long bs (keeps.same file.name ∙ is) }
 
-  pub stops_failed : Rose (faults between) (faults new) → StopsAt (content old) files i (λ f. Rose (faults old) (faults new))
-  stops_failed rose = record { file = file; there = there; all = all; taken = taken; why = omega (arith, keeps.later, rose) }
+  pub stops_failed : (events : List Event) → events ≡ reads_from 0 all → Rose (faults between) (faults new) → StopsAt (content old) files i events (λ f. Rose (faults old) (faults new))
+  stops_failed events told rose = record { file = file; there = there; all = all; taken = taken; told = told; why = omega (arith, keeps.later, rose) }
 
   pub takes_on : (bytes : List ℕ) → HasEnding file.limit (content between file.name) bytes (faults between) (faults new) Whole → AreTakenTo (content old) files (i + 1) (all ++ bytes ∷ [])
   takes_on bytes whole = one_more_taken (content old) files i all file bytes taken there (record { told = λ bs told. whole.0 bs (keeps.same file.name ∙ told); limit = whole.1 })

@@ -1,5 +1,5 @@
 -- From the violations of a subject to the answers.
-use Rattle.std.proofs.Common.{◌≡◌, ◌≢◌, ℕ, ◌≤◌, ◌<◌, List, [], length, map, Result, Ok, Err, IfOk, refl, subst, arith}
+use Rattle.std.proofs.Common.{◌≡◌, ◌≢◌, ℕ, ◌≤◌, ◌<◌, List, [], length, map, Ok, refl, subst, arith}
 use Rattle.ns_base.specs.Answers.{limit_of}
 use Rattle.ns_base.specs.declared.answers.Counted.TheVariants.{CertBytes}
 use Rattle.ns_base.specs.declared.answers.Exit.{Exit}
@@ -21,9 +21,9 @@ use Rattle.view_solver.specs.Reported.{HasLeast}
 use Rattle.view_solver.proofs.Closed.{least_closed}
 use Rattle.view_solver.proofs.Judged.{derived_violation}
 use Rattle.one_scope.specs.Alike.{AreAlike}
-use Rattle.nosleep.specs.declared.refusing.Answer.{Answer}
 use Rattle.nosleep.specs.Certified.{IsCertificateOf}
 use Rattle.nosleep.specs.Certifying.{IsWritten, short, long}
+use Rattle.nosleep.specs.Events.{AreHelds}
 use Rattle.nosleep.specs.Judged.{IsAccepted, IsChecked, IsReceived, IsSafe, IsVerified, accepts, certified, overlong}
 use Rattle.nosleep.specs.Outcome.{IsReport, IsTold, none, some}
 
@@ -41,10 +41,14 @@ told_by x violations text exit are safe (none empty t e) = accepts t (subst (λ 
 told_by x violations text exit are safe (some more r) = IsReceived.reports (violations, are, more, r.1) r.0
 
 -- so of each subject that is alike
-pub told_answer : {E : Type 0} (x : SubjectParts) (violations : List Violation) (r : Result Answer E) → ((y : SubjectParts) → AreAlike x y → AreViolations y violations × (violations ≡ [] → IsSafe y))
-    → IfOk r (λ a. IsTold x.app x.list violations a.text.items a.exit) → IfOk r (λ a. (y : SubjectParts) → AreAlike x y → IsReceived y a.text.items a.exit)
-told_answer x violations (Ok a) each t = λ y alike. told_by y violations a.text.items a.exit (each y alike).0 (each y alike).1 (told_of x y violations a.text.items a.exit alike t)
-told_answer x violations (Err e) each t = tt
+pub told_answer : (x : SubjectParts) (violations : List Violation) (text : List ℕ) (exit : Exit) → ((y : SubjectParts) → AreAlike x y → AreViolations y violations × (violations ≡ [] → IsSafe y))
+    → IsTold x.app x.list violations text exit → (y : SubjectParts) → AreAlike x y → IsReceived y text exit
+told_answer x violations text exit each t y alike = told_by y violations text exit (each y alike).0 (each y alike).1 (told_of x y violations text exit alike t)
+
+pub told_helds : (x : SubjectParts) (violations : List Violation) (text : List ℕ) (exit : Exit) → ((y : SubjectParts) → AreAlike x y → AreViolations y violations)
+    → IsTold x.app x.list violations text exit → AreHelds (Ok x) exit violations
+told_helds x violations text exit each (none empty t e) = (λ y alike here. each y alike, λ no. empty)
+told_helds x violations text exit each (some more r) = (λ y alike here. each y alike, λ no. absurd (no r.0))
 
 -- no derived violation: the least solution of each lock field meets the policy, so that every run is safe
 pub all_safe : (x : SubjectParts) (violations : List Violation) → AreViolations x violations → ((l : ℕ) → l < slot_count x → HasLeast x l)
@@ -59,12 +63,15 @@ all_safe x violations are least stands leaves empty l below choices =
     (stands l set below closed meets choices, leaves l set below closed meets choices)
 
 -- ---- verify
-pub report_answer : {E : Type 0} (list : List ℕ) (dex : List (List ℕ)) (x : SubjectParts) (violations : List Violation) (r : Result Answer E) → ((y : SubjectParts) → AreAlike x y → AreViolations y violations) → violations ≢ []
-    → IfOk r (λ a. IsReport x.app x.list violations a.text.items a.exit) → IfOk r (λ a. (y : SubjectParts) → AreAlike x y → IsVerified list dex y a.text.items a.exit)
-report_answer list dex x violations (Ok a) each more t = λ y alike.
-    let r = report_of x y violations a.text.items a.exit alike t in
+pub report_answer : (list : List ℕ) (dex : List (List ℕ)) (x : SubjectParts) (violations : List Violation) (text : List ℕ) (exit : Exit) → ((y : SubjectParts) → AreAlike x y → AreViolations y violations) → violations ≢ []
+    → IsReport x.app x.list violations text exit → (y : SubjectParts) → AreAlike x y → IsVerified list dex y text exit
+report_answer list dex x violations text exit each more t y alike =
+    let r = report_of x y violations text exit alike t in
     IsVerified.reports (violations, each y alike, more, r.1) r.0
-report_answer list dex x violations (Err e) each more t = tt
+
+pub report_helds : (x : SubjectParts) (violations : List Violation) (text : List ℕ) (exit : Exit) → ((y : SubjectParts) → AreAlike x y → AreViolations y violations)
+    → IsReport x.app x.list violations text exit → AreHelds (Ok x) exit violations
+report_helds x violations text exit each r = (λ y alike here. each y alike, λ no. absurd (no r.0))
 
 -- a certificate that is short enough is one that check accepts
 written_by : (list : List ℕ) (dex : List (List ℕ)) (y : SubjectParts) (cert : CertParts) (text : List ℕ) (exit : Exit) → IsCertificateOf y (sha1 list) (map sha1 dex) cert → IsCert cert → IsAccepted y
@@ -80,8 +87,10 @@ written_by list dex y cert text exit solved is accepted valid (short t few e) =
     }) e
 written_by list dex y cert text exit solved is accepted valid (long many t e) = overlong (record { cert = cert; solved = solved; long = many; accepted = accepted; says = t }) e
 
-pub written_answer : {E : Type 0} (list : List ℕ) (dex : List (List ℕ)) (x : SubjectParts) (cert : CertParts) (r : Result Answer E) → IsCert cert
+pub written_answer : (list : List ℕ) (dex : List (List ℕ)) (x : SubjectParts) (cert : CertParts) (text : List ℕ) (exit : Exit) → IsCert cert
     → ((y : SubjectParts) → AreAlike x y → IsCertificateOf y (sha1 list) (map sha1 dex) cert × IsAccepted y × (length (certificate_text cert) ≤ limit_of CertBytes → IsVerdict y (sha1 list) (map sha1 dex) cert Valid))
-    → IfOk r (λ a. IsWritten cert a.text.items a.exit) → IfOk r (λ a. (y : SubjectParts) → AreAlike x y → IsVerified list dex y a.text.items a.exit)
-written_answer list dex x cert (Ok a) is each w = λ y alike. let of = each y alike in written_by list dex y cert a.text.items a.exit of.0 is of.1 of.2 w
-written_answer list dex x cert (Err e) is each w = tt
+    → IsWritten cert text exit → (y : SubjectParts) → AreAlike x y → IsVerified list dex y text exit
+written_answer list dex x cert text exit is each w y alike = let of = each y alike in written_by list dex y cert text exit of.0 is of.1 of.2 w
+
+pub written_helds : (x : SubjectParts) (violations : List Violation) (exit : Exit) → violations ≡ [] → ((y : SubjectParts) → AreAlike x y → AreViolations y violations) → AreHelds (Ok x) exit violations
+written_helds x violations exit empty each = (λ y alike here. each y alike, λ no. empty)

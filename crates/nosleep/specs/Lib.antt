@@ -2,6 +2,8 @@ pub mod Answer
 pub mod Asked
 pub mod Certified
 pub mod Certifying
+pub mod Ending
+pub mod Events
 pub mod Files
 pub mod Judged
 pub mod Outcome
@@ -9,4 +11,3 @@ pub mod Reading
 pub mod Refusals
 pub mod Words
 pub mod Taking
-pub mod Writing

@@ -13,6 +13,7 @@ use Rattle.flow_model.specs.declared.policy.Violation.{Violation}
 use Rattle.report_text.specs.Heads.{heads_text}
 use Rattle.report_text.specs.Texts.{accept_text}
 use Rattle.nosleep.specs.Answer.{BytesComeTo, IsOutcome}
+use Rattle.nosleep.specs.Events.{AreHelds}
 use Rattle.nosleep.specs.Files.{AreContents, ComesTo, FailsAt}
 use Rattle.certificate.specs.declared.parts.CertFault.{CertFault}
 use Rattle.certificate.specs.declared.parts.CertFault.TheVariants as certs
@@ -33,9 +34,9 @@ abbrev pub HasFound : Result (List ListedParts) ListFault → List (List ℕ) �
 HasFound listed files (Subject x) = ComesTo listed files (Ok x)
 HasFound listed files (Refused a) = (refusal : Refusal) × ComesTo listed files (Err refusal) × IsRefused refusal a.text.items a.exit
 
--- the files of a form come to something, which has this text and exit
-abbrev pub FormHasOutcome : Form → List (List ℕ) → List ℕ → Exit → Type 0
-FormHasOutcome form files text exit = (result : Result SubjectParts Refusal) × BytesComeTo form files result × IsOutcome form files result text exit
+-- the files of a form come to something, which has this text and exit, and these violations
+abbrev pub FormHasOutcome : Form → List (List ℕ) → List ℕ → Exit → List Violation → Type 0
+FormHasOutcome form files text exit found = (result : Result SubjectParts Refusal) × BytesComeTo form files result × IsOutcome form files result text exit × AreHelds result exit found
 
 abbrev pub HasContents : List (List ℕ) → Contents → Type 0
 HasContents files (Read parts) = AreContents files parts.items

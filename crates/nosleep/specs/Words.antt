@@ -1,9 +1,10 @@
 -- The forms of the command line, and the files that they name.
-use Rattle.std.specs.Prelude.{ℕ, List, [], ◌∷◌, map, Option, Some, None, if◌then◌else◌, nat_eq, codes}
+use Rattle.std.specs.Prelude.{ℕ, Bool, true, false, not, ◌&&◌, List, [], ◌∷◌, map, Option, Some, None, option_map, option_and_then, if◌then◌else◌, nat_eq, codes}
 use Rattle.std.specs.List.{starts_with}
 use Rattle.std.specs.Str.{bytes_eq}
 use Rattle.ns_base.specs.declared.answers.Counted.{Counted}
 use Rattle.ns_base.specs.declared.answers.Counted.TheVariants.{CertBytes, FileBytes, ListBytes}
+use Rattle.nosleep.specs.declared.words.Options.{Options}
 
 -- what a command line asks for, its names as they stand there
 pub data Form : Type 0 where
@@ -28,18 +29,61 @@ receiver_of dex [] = None
 receiver_of dex (class ∷ []) = Some (Receiver dex class)
 receiver_of dex (class ∷ word ∷ words) = None
 
--- a first name that begins with -- is an option, and no option is known yet
-abbrev pub by_form : (form first : List ℕ) → List (List ℕ) → Option Form
-by_form form first rest =
-    if starts_with nat_eq first (codes "--") then None
-    else (if bytes_eq form (codes "verify") then verify_of first rest
+-- the form that this word begins, with the names behind its options
+abbrev pub named_form : (form : List ℕ) → List (List ℕ) → Option Form
+named_form form [] = None
+named_form form (first ∷ rest) =
+    if bytes_eq form (codes "verify") then verify_of first rest
     else (if bytes_eq form (codes "check") then check_of first rest
-    else (if bytes_eq form (codes "receiver") then receiver_of first rest else None)))
+    else (if bytes_eq form (codes "receiver") then receiver_of first rest else None))
 
--- the form of the words, the program's own name not among them
+-- ---- options
+-- no option
+abbrev pub no_options : Options
+no_options = record { json = false; count = false }
+
+-- words behind options
+pub record Rest : Type 0 where
+  pub options : Options
+  pub names : List (List ℕ)
+
+-- options end at the first word that does not begin with --; each comes at most once, and these came before
+abbrev pub rest_of : (json count : Bool) → List (List ℕ) → Option Rest
+rest_of json count [] = Some (record { options = record { json = json; count = count }; names = [] })
+rest_of json count (word ∷ words) =
+    if starts_with nat_eq word (codes "--")
+    then (if bytes_eq word (codes "--json") && not json then rest_of true count words
+    else (if bytes_eq word (codes "--count") && not count then rest_of json true words else None))
+    else Some (record { options = record { json = json; count = count }; names = word ∷ words })
+
+-- ---- the words, the program's own name not among them
+pub record Request : Type 0 where
+  pub options : Options
+  pub form : Form
+
+abbrev pub with_options : Options → Form → Request
+with_options options form = record { options = options; form = form }
+
+abbrev pub request_of : List (List ℕ) → Option Request
+request_of [] = None
+request_of (form ∷ words) = option_and_then (λ rest. option_map (with_options rest.options) (named_form form rest.names)) (rest_of false false words)
+
 abbrev pub form_of : List (List ℕ) → Option Form
-form_of (form ∷ first ∷ rest) = by_form form first rest
-form_of words = None
+form_of words = option_map (λ request. request.form) (request_of words)
+
+-- the kinds of the watchers that the options choose: 1 writes JSON lines, 2 counts
+abbrev pub kinds_by : (json count : Bool) → List ℕ
+kinds_by false false = []
+kinds_by true false = 1 ∷ []
+kinds_by false true = 2 ∷ []
+kinds_by true true = 1 ∷ 2 ∷ []
+
+abbrev pub kinds_in : Option Request → List ℕ
+kinds_in None = []
+kinds_in (Some request) = kinds_by request.options.json request.options.count
+
+abbrev pub kinds_of : List (List ℕ) → List ℕ
+kinds_of words = kinds_in (request_of words)
 
 -- a file that is read: its name, and the limit of its bytes
 pub record FileName : Type 0 where

@@ -1,4 +1,4 @@
-//! The real outside: files by their paths, and standard output. Neither tells what it holds, so that only
+//! The real outside: files by their paths, and standard output and error. None tells what it holds, so that only
 //! tests speak of their content.
 ghost use Rattle.std.specs.Prelude.{◌≡◌, ◌≤◌, length, IfOk, None};
 
@@ -79,26 +79,26 @@ impl<R: Files> Shelf for FileShelf<'_, R> {
     }
 }
 
-/// Standard output. A write that takes nothing of something is a fault.
+/// What is written to, as standard output. A write that takes nothing of something is a fault.
 #[derive(Drop)]
-pub struct Output<'a, P: Print> {
-    to: &'a P,
+pub struct Output<W> {
+    to: W,
     faults: u64,
 }
 
-impl<'a, P: Print> Output<'a, P> {
-    pub fn new(to: &'a P) -> Self {
+impl<W: Write> Output<W> {
+    pub fn new(to: W) -> Self {
         Output { to, faults: 0 }
     }
 }
 
-impl<P: Print> Sink for Output<'_, P> {
+impl<W: Write> Sink for Output<W> {
     ghost taken = { λ _. None };
 
     ghost faults = { λ s. s.faults };
 
     fn write(&mut self, piece: &[u8]) -> Result<usize, Failed> {
-        match io::writer(self.to).write(piece) {
+        match self.to.write(piece) {
             Ok(count) if count > 0 || piece.is_empty() => Ok(count),
             _ => {
                 self.faults = self.faults.saturating_add(1);

@@ -1,14 +1,15 @@
 //! The answer of `verify` to a subject in scope: the certificate of its least solutions, or the heads of its violations.
-ghost use Rattle.std.specs.Prelude.{◌<◌, ◌+◌, length, map, IfOk};
+ghost use Rattle.std.specs.Prelude.{◌<◌, ◌+◌, length, map, Ok, IfOk};
 ghost use Rattle.app_model.specs.Subject.{SubjectParts, slot_count};
 ghost use Rattle.cert_laws.specs.Solved.{IsSolved};
 ghost use Rattle.one_scope.specs.Alike.{AreAlike};
 ghost use Rattle.view_solver.specs.Reported.{AreLockMasks};
+ghost use Rattle.nosleep.specs.Events.{AreHelds};
 ghost use Rattle.nosleep.specs.Judged.{IsVerified};
 ghost use Rattle.nosleep.specs.Certifying.{IsSolvedTo, IsWritten};
 
 use crate::checking::digests_of;
-use crate::judging::report;
+use crate::judging::{Judged, report};
 use crate::refusing::{Answer, over};
 use app_model::Subject;
 use cert_laws::{accepted_certificates, alike_verdicts, written_certificates};
@@ -69,9 +70,10 @@ pub fn certify(
     subject: &Subject,
     list: &[u8],
     files: &[Vec<u8>],
-) -> Result<Answer, AllocError>
+) -> Result<Judged, AllocError>
     requires { 0 < length files.now }
-    ensures { IfOk result (λ a. (y : SubjectParts) → AreAlike subject.now y → IsVerified list.now (map (λ bytes. bytes.items) files.now) y a.text.items a.exit) }
+    ensures judged { IfOk result (λ j. (y : SubjectParts) → AreAlike subject.now y → IsVerified list.now (map (λ bytes. bytes.items) files.now) y j.answer.text.items j.answer.exit) }
+    ensures found { IfOk result (λ j. AreHelds (Ok subject.now) j.answer.exit j.found.items) }
 {
     subject.told();
     tagged_soundness();
@@ -83,14 +85,16 @@ pub fn certify(
         return Err(AllocError);
     };
     if !found.is_empty() {
-        return report(alloc, subject, &found);
+        let answer = report(alloc, subject, &found)?;
+        return Ok(Judged { answer, found });
     }
     let cert = Certificate {
         list: Sha1::digest(list),
         dex: digests_of(alloc, files)?,
         locks: solved.parts,
     };
-    write(alloc, &cert)
+    let answer = write(alloc, &cert)?;
+    Ok(Judged { answer, found })
 }
 
 // The text of a certificate, where it is short enough.

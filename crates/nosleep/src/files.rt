@@ -1,5 +1,5 @@
 //! Reading the files of a form.
-ghost use Rattle.std.specs.Prelude.{◌≡◌, ◌++◌, map, string_bytes, IfOk};
+ghost use Rattle.std.specs.Prelude.{◌≡◌, ◌≤◌, ◌++◌, length, map, string_bytes, vec_len, IfOk};
 ghost use Rattle.nosleep.specs.Asked.{form_by};
 ghost use Rattle.nosleep.specs.Reading.{KeepsShelf};
 ghost use Rattle.nosleep.specs.Taking.{HasTaken};
@@ -7,7 +7,7 @@ ghost use Rattle.nosleep.specs.Words.{dex_file, files_of, list_file};
 
 use crate::reading::{Reading, read_whole};
 use crate::words::Asked;
-use ns_base::{Counted, Shelf};
+use ns_base::{Counted, Event, Shelf};
 use std::alloc::{AllocError, Global};
 use std::marker::Model;
 
@@ -85,20 +85,29 @@ pub fn names_of<'a>(alloc: Global, asked: Asked<'a>) -> Result<Vec<FileName<'a>>
     Ok(names)
 }
 
-/// Reads the files in order, until one fails or is too long.
+/// Reads the files in order, until one fails or is too long. Each that was read whole is an event.
 pub fn take_files<F: Shelf>(
     alloc: Global,
     shelf: &mut F,
     names: &[FileName<'_>],
+    events: &mut Vec<Event>,
 ) -> Result<Taken, AllocError>
-    ensures taken { IfOk result (HasTaken (F.content shelf.old) names.now (F.faults shelf.old) (F.faults shelf.new)) }
+    requires few { length names.now ≤ 18 }
+    requires none { vec_len events.old ≡ 0 }
+    ensures taken { IfOk result (HasTaken (F.content shelf.old) names.now (F.faults shelf.old) (F.faults shelf.new) events.new.items) }
     ensures keeps { KeepsShelf F.content F.faults shelf.old shelf.new }
 {
     let mut all = Vec::new(alloc);
     for i in 0..names.len() {
         let file = &names[i];
         match read_whole(alloc, shelf, file.name, file.limit)? {
-            Reading::Whole(bytes) => all.push(bytes)?,
+            Reading::Whole(bytes) => {
+                events.push(Event::Read {
+                    file: i as u32,
+                    bytes: bytes.len() as u64,
+                })?;
+                all.push(bytes)?;
+            }
             Reading::TooLong => return Ok(Taken::TooLong(i)),
             Reading::Fault => return Ok(Taken::Fault(i)),
         }

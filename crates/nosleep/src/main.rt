@@ -19,20 +19,29 @@ mod words;
 mod writing;
 
 use adapters::{FileShelf, Output};
-use ns_base::{Exit, number};
+use ns_base::{Exit, Watcher, number};
 use std::alloc::AllocError;
 use std::env;
-use std::io::ErrorKind;
+use std::io::{self, ErrorKind};
 use std::process::ExitCode;
 use std::rt::Env;
+use watchers::{CountWatcher, JsonWatcher};
 
 fn main(rt: HostRuntime) -> ExitCode {
     let Ok(words) = words_of(&rt) else {
         return ExitCode::from(number(Exit::Memory));
     };
     let mut shelf = FileShelf::new(rt.alloc(), &rt);
-    let mut out = Output::new(&rt);
-    let mut watchers = Vec::new(rt.alloc());
+    let mut out = Output::new(io::writer(&rt));
+    let mut watchers: Vec<Box<dyn Watcher>> = Vec::new(rt.alloc());
+    let json = JsonWatcher::new(rt.alloc(), Output::new(rt.stderr()));
+    let count = CountWatcher::new(rt.alloc(), Output::new(rt.stderr()));
+    let (Ok(json), Ok(count)) = (Box::new(rt.alloc(), json), Box::new(rt.alloc(), count)) else {
+        return ExitCode::from(number(Exit::Memory));
+    };
+    if watchers.push(json).is_err() || watchers.push(count).is_err() {
+        return ExitCode::from(number(Exit::Memory));
+    }
     ExitCode::from(number(top::nosleep(rt.alloc(), &words, &mut shelf, &mut out, &mut watchers)))
 }
 

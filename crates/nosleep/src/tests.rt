@@ -8,10 +8,11 @@ use ns_base::{Exit, Failed, Shelf, Sink};
 use ns_memory::{MemoryShelf, MemorySink};
 use rows::{ACCEPTED, HANDLES, JUDGED, MAKE, OUTSIDE, R, REFUSED, RETURN, Row, TRY, Told, WORKS};
 use std::alloc::{AllocError, Global};
-use std::fs;
 use std::test::Fail;
+use std::{fs, io};
 
 mod certs;
+mod events;
 mod layout;
 mod lists;
 mod rows;
@@ -31,7 +32,7 @@ const HELP: Told = (
 );
 
 // Words over the sample `a`, the empty file `e` and the list `l`, and the answer.
-static ANSWERS: [(&[&str], Told); 19] = [
+static ANSWERS: [(&[&str], Told); 24] = [
     (&["receiver", "a", "Lapp/R;"], ACCEPTED),
     (
         &["receiver", "e", "Lapp/R;"],
@@ -48,6 +49,14 @@ static ANSWERS: [(&[&str], Told); 19] = [
     (&[], HELP),
     (&["receiver", "--json", "Lapp/R;"], HELP),
     (&["receiver", "a"], HELP),
+    (&["receiver", "--count", "--json", "a", "Lapp/R;"], ACCEPTED),
+    (
+        &["receiver", "--json", "a", "--count"],
+        (Exit::Bad, "bad list NoClass 0\n"),
+    ),
+    (&["receiver", "--count", "--x", "a", "Lapp/R;"], HELP),
+    (&["verify", "l"], HELP),
+    (&["verify", "--json", "--json", "l", "a"], HELP),
     (&["verify", "a"], HELP),
     (&["verify", "--x", "l", "a"], HELP),
     (&["check", "l", "a"], HELP),
@@ -409,7 +418,7 @@ fn real_files_are_read_in_pieces(rt: HostRuntime) -> Result<(), Fail> {
 
 #[test]
 fn standard_output_takes_pieces(rt: HostRuntime) {
-    let mut out = Output::new(&rt);
+    let mut out = Output::new(io::writer(&rt));
     assert_eq!(rt; out.write(b"written\n"), Ok(8));
     assert_eq!(rt; out.write(b""), Ok(0));
 }

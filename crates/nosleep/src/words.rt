@@ -1,7 +1,37 @@
 //! The words of the command line.
 ghost use Rattle.std.specs.Prelude.{◌≡◌, map, string_bytes, Option, Some, option_map};
-ghost use Rattle.nosleep.specs.Words.{by_form, check_of, form_of, receiver_of, verify_of};
-ghost use Rattle.nosleep.specs.Asked.{form_by};
+ghost use Rattle.nosleep.specs.Words.{check_of, kinds_by, named_form, receiver_of, request_of, rest_of, verify_of};
+ghost use Rattle.nosleep.specs.Asked.{form_by, request_by, rest_by};
+
+/// The options of the command line.
+#[derive(Clone, Copy)]
+pub struct Options {
+    /// Events are written as lines of JSON.
+    pub json: bool,
+    /// Events are counted.
+    pub count: bool,
+}
+
+/// Options, and the words behind them.
+#[derive(Clone, Copy)]
+pub struct Behind<'a> {
+    pub options: Options,
+    pub names: &'a [String],
+}
+
+/// What the words ask for, and with which options.
+#[derive(Clone, Copy)]
+pub struct Order<'a> {
+    pub options: Options,
+    pub form: Asked<'a>,
+}
+
+impl Options {
+    pub const NONE: Options = Options {
+        json: false,
+        count: false,
+    };
+}
 
 /// What the words ask for, its names as they stand there.
 #[derive(Clone, Copy)]
@@ -64,27 +94,79 @@ fn receiver_of<'a>(dex: &'a str, words: &'a [String]) -> Option<Asked<'a>>
     }
 }
 
-fn by_form<'a>(form: &str, first: &'a str, rest: &'a [String]) -> Option<Asked<'a>>
-    ensures { option_map form_by result ≡ by_form form.now first.now (map string_bytes rest.now) }
+// The form that this word begins, with the names behind its options.
+fn named_form<'a>(form: &str, names: &'a [String]) -> Option<Asked<'a>>
+    ensures { option_map form_by result ≡ named_form form.now (map string_bytes names.now) }
 {
-    if first.starts_with("--") {
-        None
-    } else if form == "verify" {
-        verify_of(first, rest)
+    let (first, rest) = names.split_first()?;
+    if form == "verify" {
+        verify_of(first.as_str(), rest)
     } else if form == "check" {
-        check_of(first, rest)
+        check_of(first.as_str(), rest)
     } else if form == "receiver" {
-        receiver_of(first, rest)
+        receiver_of(first.as_str(), rest)
+    } else {
+        None
+    }
+}
+
+// The words behind options; these came before.
+fn rest_of(options: Options, words: &[String]) -> Option<Behind<'_>>
+    ensures { option_map rest_by result ≡ rest_of options.json options.count (map string_bytes words.now) }
+{
+    let Some((word, rest)) = words.split_first() else {
+        return Some(Behind {
+            options,
+            names: words,
+        });
+    };
+    if !word.as_str().starts_with("--") {
+        Some(Behind {
+            options,
+            names: words,
+        })
+    } else if word.as_str() == "--json" && !options.json {
+        rest_of(
+            Options {
+                json: true,
+                count: options.count,
+            },
+            rest,
+        )
+    } else if word.as_str() == "--count" && !options.count {
+        rest_of(
+            Options {
+                json: options.json,
+                count: true,
+            },
+            rest,
+        )
     } else {
         None
     }
 }
 
 /// What the words ask for, where they have a form. The program's own name is not among them.
-pub fn asked_by(words: &[String]) -> Option<Asked<'_>>
-    ensures { option_map form_by result ≡ form_of (map string_bytes words.now) }
+pub fn ordered_by(words: &[String]) -> Option<Order<'_>>
+    ensures { option_map request_by result ≡ request_of (map string_bytes words.now) }
 {
     let (form, words) = words.split_first()?;
-    let (first, rest) = words.split_first()?;
-    by_form(form.as_str(), first.as_str(), rest)
+    let behind = rest_of(Options::NONE, words)?;
+    let asked = named_form(form.as_str(), behind.names)?;
+    Some(Order {
+        options: behind.options,
+        form: asked,
+    })
+}
+
+/// The kinds of the watchers that options choose.
+pub fn kinds_by(options: Options) -> &'static [u8]
+    ensures { result.now ≡ kinds_by options.json options.count }
+{
+    match (options.json, options.count) {
+        (false, false) => b"".as_slice(),
+        (true, false) => b"\x01".as_slice(),
+        (false, true) => b"\x02".as_slice(),
+        (true, true) => b"\x01\x02".as_slice(),
+    }
 }

@@ -1,7 +1,7 @@
 //! Writing a text until all of it is taken.
 ghost use Rattle.std.specs.Prelude.{◌≡◌, ◌≤◌, ◌<◌, [], length, take, OnOk, OnErr, IfOk};
 ghost use Rattle.ns_base.specs.Outside.{Rose};
-ghost use Rattle.nosleep.specs.Writing.{WroteAll, WrotePart};
+ghost use Rattle.watchers.specs.Writing.{WroteAll, WrotePart};
 
 use ns_base::{Failed, Sink};
 

@@ -1,13 +1,16 @@
-use Rattle.std.proofs.Common.{◌∷◌, map, Err}
+use Rattle.std.proofs.Common.{◌∷◌, map}
 use Rattle.nosleep.specs.Words.{Check}
-use Rattle.nosleep.proofs.Outcomes.{judged_form}
+use Rattle.nosleep.proofs.Outcomes.{checked_form, no_report, refused_form}
 use Rattle.nosleep.proofs.answer.answer_check.Goals as goal
 
 pub returns-in-Subject : goal.returns-in-Subject
 returns-in-Subject c = λ one two dex.
-    judged_form (Check one two dex) (c.args.cert.now ∷ c.args.list.now ∷ map (λ v. v.items) c.args.files.now) _ c.check_bytes.result (rw c.in-Subject.is at c.in_ok-subject.ensures) c.check_bytes.ensures
+    let files = map (λ v. v.items) c.args.files.now in
+    checked_form (Check one two dex) (c.args.cert.now ∷ c.args.list.now ∷ files) c.with_none.result c.in_ok-answer.answer c.with_none.ensures.answer c.with_none.ensures.none
+    _ (rw c.in-Subject.is at c.in_ok-subject.ensures) c.in_ok-answer.ensures (λ y alike. no_report c.args.cert.now c.args.list.now files y _ _ (c.in_ok-answer.ensures y alike))
 
 pub returns-in-Refused : goal.returns-in-Refused
 returns-in-Refused c = λ one two dex.
     let comes = rw c.in-Refused.is at c.in_ok-subject.ensures in
-    (Err comes.0, comes.1, comes.2)
+    refused_form (Check one two dex) (c.args.cert.now ∷ c.args.list.now ∷ map (λ v. v.items) c.args.files.now) c.with_none-in-Refused.result c.in-Refused.answer
+    c.with_none-in-Refused.ensures.answer c.with_none-in-Refused.ensures.none comes.0 comes.1 comes.2

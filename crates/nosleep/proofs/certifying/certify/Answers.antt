@@ -7,16 +7,26 @@ use Rattle.flow_model.specs.Policy.{AreViolations}
 use Rattle.sha1.specs.Sha1.{sha1}
 use Rattle.nosleep.proofs.Alike.{certificate_over, least_over, tagged_over, violations_over}
 use Rattle.nosleep.proofs.Certified.{all_digests, none_found, some_files, some_found, valid_over}
-use Rattle.nosleep.proofs.Told.{all_safe, report_answer, written_answer}
+use Rattle.nosleep.proofs.Told.{all_safe, report_answer, report_helds, written_answer, written_helds}
 use Rattle.nosleep.proofs.certifying.certify.Goals as goal
 
-pub returns-then-not-is_empty : goal.returns-then-not-is_empty
-returns-then-not-is_empty c =
-    report_answer c.args.list.now (map (λ v. v.items) c.args.files.now) c.args.subject.now c.in-Ok.found.items c.report.result
-    (λ y alike. violations_over c.args.subject.now y alike c.in-Ok.found.items c.in-Ok.ensures.exact) (some_found c.in-Ok.found _ c.is_empty.ensures c.if-not-is_empty.true) (rw c.deref-then-not-is_empty.ensures.value at c.report.ensures)
+pub returns-then-not-is_empty-clause-judged : goal.returns-then-not-is_empty-clause-judged
+returns-then-not-is_empty-clause-judged c =
+    report_answer c.args.list.now (map (λ v. v.items) c.args.files.now) c.args.subject.now c.in-Ok.found.items _ _
+    (λ y alike. violations_over c.args.subject.now y alike c.in-Ok.found.items c.in-Ok.ensures.exact) (some_found c.in-Ok.found _ c.is_empty.ensures c.if-not-is_empty.true) (rw c.deref-then-not-is_empty.ensures.value at c.in_ok-answer-then-not-is_empty.ensures)
 
-pub returns : goal.returns
-returns c =
+pub returns-then-not-is_empty-clause-found : goal.returns-then-not-is_empty-clause-found
+returns-then-not-is_empty-clause-found c =
+    report_helds c.args.subject.now c.in-Ok.found.items _ _
+    (λ y alike. violations_over c.args.subject.now y alike c.in-Ok.found.items c.in-Ok.ensures.exact) (rw c.deref-then-not-is_empty.ensures.value at c.in_ok-answer-then-not-is_empty.ensures)
+
+pub returns-clause-found : goal.returns-clause-found
+returns-clause-found c =
+    written_helds c.args.subject.now c.in-Ok.found.items _ (none_found c.in-Ok.found _ c.is_empty.ensures c.if-not-is_empty.false)
+    (λ y alike. violations_over c.args.subject.now y alike c.in-Ok.found.items c.in-Ok.ensures.exact)
+
+pub returns-clause-judged : goal.returns-clause-judged
+returns-clause-judged c =
     let x = c.args.subject.now in
     let dex = map (λ v. v.items) c.args.files.now in
     let cert : CertParts = record { list = c.digest.result; dex = c.in_ok-digests_of.field-0.items; locks = c.in_ok-solved.solved.parts.items } in
@@ -27,7 +37,7 @@ returns c =
     let digests : All IsDigest cert.dex = subst (λ (ds : List (List ℕ)). All IsDigest ds) (sym same) (all_digests c.written_certificates.ensures.digest dex) in
     let one : IsDigest cert.list = subst IsDigest (sym c.digest.ensures) (c.written_certificates.ensures.digest c.args.list.now) in
     let some : 0 < length cert.dex = some_files c.args.files.now cert.dex same c.requires in
-    written_answer c.args.list.now dex x cert c.write.result (c.written_certificates.ensures.text x cert c.told.ensures solved one digests some)
+    written_answer c.args.list.now dex x cert _ _ (c.written_certificates.ensures.text x cert c.told.ensures solved one digests some)
     (λ y alike.
     let tagged = tagged_over x y c.told.ensures alike in
     let over = violations_over x y alike [] are in (
@@ -35,4 +45,4 @@ returns c =
       (over, all_safe y [] over (least_over x y alike c.in-Ok.ensures.least) (λ l set. c.tagged_soundness.ensures.runs y l set tagged) (λ l set. c.tagged_soundness.ensures.counts y l set tagged) refl),
       valid_over x cert c.args.list.now dex c.digest.ensures same (c.written_certificates.ensures.accepted x cert c.told.ensures are solved) (c.alike_verdicts.ensures.accepted x) c.accepted_certificates.ensures.valid y alike,
     ))
-    c.write.ensures
+    c.in_ok-answer.ensures

@@ -6,7 +6,7 @@ use Rattle.nosleep.proofs.Taking.{keeps_next, none_taken, stops_failed, stops_lo
 use Rattle.nosleep.proofs.files.take_files.Goals as goal
 
 pub loop-i-init : goal.loop-i-init
-loop-i-init g c = record { taken = rw c.new-all.ensures.items (none_taken _ _); keeps = record { same = λ n. refl; later = omega arith } }
+loop-i-init g c = record { told = search rules; taken = rw c.new-all.ensures.items (none_taken _ _); keeps = record { same = λ n. refl; later = omega arith } }
 
 pub returns-in_err-bytes-clause-keeps : goal.returns-in_err-bytes-clause-keeps
 returns-in_err-bytes-clause-keeps g c = keeps_next _ _ _ _ _ c.loop-i.invariant.keeps c.read_whole.ensures.keeps
@@ -16,14 +16,14 @@ returns-in_err-push-in-Whole-clause-keeps g c = keeps_next _ _ _ _ _ c.loop-i.in
 
 pub returns-in-TooLong-clause-taken : goal.returns-in-TooLong-clause-taken
 returns-in-TooLong-clause-taken g c =
-    stops_long _ _ _ _ c.read_whole.new.shelf _ _ _ _ c.loop-i.invariant.keeps c.loop-i.invariant.taken (slice_get_read _ _ _ _ refl c.loop-i-test.true c.index-names-i.is ∙ ap (λ (f : FileName). Some f) (sym c.file.view_is)) (rw c.in-TooLong.is at c.in_ok-bytes.ensures.reading)
+    stops_long _ _ _ _ c.read_whole.new.shelf _ _ _ _ c.loop-i.invariant.keeps c.loop-i.invariant.taken (slice_get_read _ _ _ _ refl c.loop-i-test.true c.index-names-i.is ∙ ap (λ (f : FileName). Some f) (sym c.file.view_is)) _ c.loop-i.invariant.told (rw c.in-TooLong.is at c.in_ok-bytes.ensures.reading)
 
 pub returns-in-TooLong-clause-keeps : goal.returns-in-TooLong-clause-keeps
 returns-in-TooLong-clause-keeps g c = keeps_next _ _ _ _ _ c.loop-i.invariant.keeps c.read_whole.ensures.keeps
 
 pub returns-in-Fault-clause-taken : goal.returns-in-Fault-clause-taken
 returns-in-Fault-clause-taken g c =
-    stops_failed _ _ _ _ _ _ _ _ _ c.loop-i.invariant.keeps c.loop-i.invariant.taken (slice_get_read _ _ _ _ refl c.loop-i-test.true c.index-names-i.is ∙ ap (λ (f : FileName). Some f) (sym c.file.view_is)) (rw c.in-Fault.is at c.in_ok-bytes.ensures.reading)
+    stops_failed _ _ _ _ _ _ _ _ _ c.loop-i.invariant.keeps c.loop-i.invariant.taken (slice_get_read _ _ _ _ refl c.loop-i-test.true c.index-names-i.is ∙ ap (λ (f : FileName). Some f) (sym c.file.view_is)) _ c.loop-i.invariant.told (rw c.in-Fault.is at c.in_ok-bytes.ensures.reading)
 
 pub returns-in-Fault-clause-keeps : goal.returns-in-Fault-clause-keeps
 returns-in-Fault-clause-keeps g c = keeps_next _ _ _ _ _ c.loop-i.invariant.keeps c.read_whole.ensures.keeps
@@ -36,7 +36,7 @@ loop-i-preserved g c =
     record { taken = rw made more; keeps = keeps_next _ _ _ _ _ c.loop-i.invariant.keeps c.read_whole.ensures.keeps }
 
 pub returns-clause-taken : goal.returns-clause-taken
-returns-clause-taken g c = let end : c.loop-i.i ≡ length c.args.names.now = omega (arith, c.loop-i-test.false, c.loop-i.auto.i-end) in rw (← end) c.loop-i.invariant.taken
+returns-clause-taken g c = let end : c.loop-i.i ≡ length c.args.names.now = omega (arith, c.loop-i-test.false, c.loop-i.auto.i-end) in (rw (← end) c.loop-i.invariant.taken, c.loop-i.invariant.told)
 
 pub returns-clause-keeps : goal.returns-clause-keeps
 returns-clause-keeps g c = c.loop-i.invariant.keeps

@@ -1,5 +1,5 @@
 use Rattle.std.proofs.Common.{length, take, ◌-◌, ◌≤◌}
-use Rattle.nosleep.specs.Writing.{WroteAll}
+use Rattle.watchers.specs.Writing.{WroteAll}
 use Rattle.nosleep.proofs.writing.write_all.Given as goal
 
 abbrev pub invariant-loop-done : goal.invariant-loop-done
