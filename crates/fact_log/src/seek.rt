@@ -15,10 +15,10 @@ use crate::work::Work;
 use report_path::{By, Goal, ViewStep};
 use std::alloc::AllocError;
 
-// Lifecycles have fewer edges.
-const EDGES: u32 = 16;
+/// Lifecycles have fewer edges.
+pub const EDGES: u32 = 16;
 
-fn moved_by(first: Option<u32>, mover: u32, edge: u32, body: Option<u32>) -> By
+pub fn moved_by(first: Option<u32>, mover: u32, edge: u32, body: Option<u32>) -> By
     ensures { result ≡ parts.moved_by first mover edge body }
 {
     match (first, body) {
@@ -38,14 +38,14 @@ fn moved_by(first: Option<u32>, mover: u32, edge: u32, body: Option<u32>) -> By
 }
 
 impl<'a> Work<'a> {
-    fn line_count(&self) -> u32
+    pub fn line_count(&self) -> u32
         ensures { result ≡ length self.now.lines }
     {
         self.told();
         self.lines.len() as u32
     }
 
-    fn view_count(&self) -> u32
+    pub fn view_count(&self) -> u32
         ensures { result ≡ length self.now.views }
     {
         self.told();
