@@ -27,13 +27,14 @@ impl Work<'_> {
     ) -> Result<(), AllocError>
         ensures { Keeps self.old self.new }
     {
-        self.push_line(Line {
+        let line = Line {
             method,
             entry: status,
             goal: Goal::Before(0),
             status,
             why: Why::Entered,
-        })?;
+        };
+        self.push_line(line, 0)?;
         let key = key(method, status);
         queue.add_wait(key, wait)?;
         let mut link = queue.ends.last(key);

@@ -25,7 +25,8 @@ fn led(line: Line, from: u32, end: Option<u32>) -> Line {
 }
 
 impl<'a> Work<'a> {
-    fn push_at(&mut self, line: Line, goal: Goal, mask: u8) -> Result<(), AllocError>
+    // Pushes a line at the statuses of a mask, by the successor of that number where it is by one.
+    fn push_at(&mut self, line: Line, goal: Goal, mask: u8, near: u32) -> Result<(), AllocError>
         ensures { Keeps self.old self.new }
     {
         for status in 0..8u8 {
@@ -35,7 +36,7 @@ impl<'a> Work<'a> {
                     goal,
                     ..line
                 };
-                self.push_line(line)?;
+                self.push_line(line, near)?;
             }
         }
         Ok(())
@@ -48,7 +49,7 @@ impl<'a> Work<'a> {
             let Some(to) = spot.successor(number) else {
                 return Ok(());
             };
-            self.push_at(line, Goal::Before(to), spot.passing(number))?;
+            self.push_at(line, Goal::Before(to), spot.passing(number), number)?;
         }
         Ok(())
     }
@@ -58,13 +59,13 @@ impl<'a> Work<'a> {
         ensures { Keeps self.old self.new }
     {
         if spot.may_leave() {
-            self.push_at(line, Goal::Thrown, mask)?;
+            self.push_at(line, Goal::Thrown, mask, 0)?;
         }
         for number in 0..u32::MAX {
             let Some(to) = spot.handler(number) else {
                 return Ok(());
             };
-            self.push_at(line, Goal::Before(to), mask)?;
+            self.push_at(line, Goal::Before(to), mask, 0)?;
         }
         Ok(())
     }
@@ -75,7 +76,7 @@ impl<'a> Work<'a> {
         if !spot.returns() {
             return Ok(());
         }
-        self.push_at(line, Goal::Returned, mask_of(line.status))
+        self.push_at(line, Goal::Returned, mask_of(line.status), 0)
     }
 
     // What is called ends.
@@ -85,7 +86,7 @@ impl<'a> Work<'a> {
         let mask = mask_of(end.status);
         match (end.goal, spot.successor(0)) {
             (Goal::Thrown, _) => self.throw_to(spot, line, mask),
-            (Goal::Returned, Some(to)) => self.push_at(line, Goal::Before(to), mask),
+            (Goal::Returned, Some(to)) => self.push_at(line, Goal::Before(to), mask, 0),
             (Goal::Returned | Goal::Before(_), _) => Ok(()),
         }
     }

@@ -56,7 +56,7 @@ impl<'a> Work<'a> {
         ensures some { IfSome result (IsNewLine self.now) }
         ensures none { NoneIs result (¬ IsNewLine self.now line) }
     {
-        if self.is_new_line(line) {
+        if self.is_new_line(line, 0) {
             Some(line)
         } else {
             None
@@ -297,7 +297,7 @@ impl<'a> Work<'a> {
         ensures done { IfOk result (λ more. more ≡ false → NothingNew self.new) }
     {
         if let Some(line) = self.find_line() {
-            self.push_line(line)?;
+            self.push_line(line, 0)?;
             return Ok(true);
         }
         if let Some(view) = self.find_view() {

@@ -201,6 +201,23 @@ impl<'a> Spot<'a> {
         self.leads_on(goal, status) || (self.throws(status) && self.is_thrown_to(goal))
     }
 
+    // Whether it does by its successor of that number.
+    fn leads_to(&self, number: u32, goal: Goal, status: u8) -> bool
+        ensures { IsTrue result → ByItself self.now goal status }
+    {
+        match goal {
+            Goal::Before(to) => self.passes_by(to, status, number),
+            Goal::Returned | Goal::Thrown => false,
+        }
+    }
+
+    /// The same, where the successor of that number is tried first: a switch may have many.
+    pub fn leads_near(&self, number: u32, goal: Goal, status: u8) -> bool
+        ensures { IsTrue result ↔ ByItself self.now goal status }
+    {
+        self.leads_to(number, goal, status) || self.leads_itself(goal, status)
+    }
+
     // Whether it calls a method, which it enters at its status.
     fn calls(&self, method: u32) -> bool
         ensures { IsTrue result ↔ IsCalled self.now method }
