@@ -19,11 +19,12 @@ use ns_base::{LockNo, MethodNo};
 use report_path::{Carrier, Edges, End, Goal, Spot, ViewStep, stays};
 use std::marker::Model;
 
-/// A lock field of a subject, and lines that may be cited.
+/// A lock field of a subject, and lines that may be cited; and the number of the successor that is tried first.
 #[derive(Drop)]
 pub struct Cited<'a> {
     edges: Edges<'a>,
     lines: &'a [Line],
+    near: u32,
 }
 
 impl<'a> Model for Cited<'a> {
@@ -82,11 +83,11 @@ pub fn has_place(subject: &Subject, method: u32, index: u32) -> bool
 }
 
 // Whether an instruction leads there, by the end that is cited.
-fn follows(spot: &Spot, lines: &[Line], end: Option<u32>, line: Line) -> bool
+fn follows(spot: &Spot, near: u32, lines: &[Line], end: Option<u32>, line: Line) -> bool
     ensures { IsTrue result ↔ Has (end_in lines.now end) (λ ends. Follows spot.now.subject spot.now.lock (At spot.now.method line.entry spot.now.index spot.now.status ∷ ends) (fact_at line.goal spot.now.method line.entry line.status)) }
 {
     let Some(number) = end else {
-        return spot.leads_itself(line.goal, line.status);
+        return spot.leads_near(near, line.goal, line.status);
     };
     match end_number(lines, number) {
         Some(end) => spot.leads_by(end, line.goal, line.status),
@@ -105,7 +106,7 @@ fn leads_at(cited: &Cited, end: Option<u32>, line: Line, from: Line, index: u32)
     }
     let method = MethodNo(from.method);
     let spot = Spot::new(subject, cited.edges.lock, method, index, from.status);
-    follows(&spot, cited.lines, end, line)
+    follows(&spot, cited.near, cited.lines, end, line)
 }
 
 fn leads_on(cited: &Cited, end: Option<u32>, line: Line, from: Line) -> bool
@@ -156,12 +157,13 @@ pub fn is_line(cited: &Cited, line: Line) -> bool
 }
 
 impl<'a> Cited<'a> {
-    pub fn new(subject: &'a Subject, lock: LockNo, lines: &'a [Line]) -> Cited<'a>
+    pub fn new(subject: &'a Subject, lock: LockNo, lines: &'a [Line], near: u32) -> Cited<'a>
         ensures { result ≡ record { subject = subject.now; lock = lock.0; lines = lines.now } }
     {
         Cited {
             edges: Edges { subject, lock },
             lines,
+            near,
         }
     }
 

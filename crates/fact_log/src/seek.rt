@@ -15,10 +15,10 @@ use crate::work::Work;
 use report_path::{By, Goal, ViewStep};
 use std::alloc::AllocError;
 
-// Lifecycles have fewer edges.
-const EDGES: u32 = 16;
+/// Lifecycles have fewer edges.
+pub const EDGES: u32 = 16;
 
-fn moved_by(first: Option<u32>, mover: u32, edge: u32, body: Option<u32>) -> By
+pub fn moved_by(first: Option<u32>, mover: u32, edge: u32, body: Option<u32>) -> By
     ensures { result ≡ parts.moved_by first mover edge body }
 {
     match (first, body) {
@@ -38,14 +38,14 @@ fn moved_by(first: Option<u32>, mover: u32, edge: u32, body: Option<u32>) -> By
 }
 
 impl<'a> Work<'a> {
-    fn line_count(&self) -> u32
+    pub fn line_count(&self) -> u32
         ensures { result ≡ length self.now.lines }
     {
         self.told();
         self.lines.len() as u32
     }
 
-    fn view_count(&self) -> u32
+    pub fn view_count(&self) -> u32
         ensures { result ≡ length self.now.views }
     {
         self.told();
@@ -56,7 +56,7 @@ impl<'a> Work<'a> {
         ensures some { IfSome result (IsNewLine self.now) }
         ensures none { NoneIs result (¬ IsNewLine self.now line) }
     {
-        if self.is_new_line(line) {
+        if self.is_new_line(line, 0) {
             Some(line)
         } else {
             None
@@ -297,7 +297,7 @@ impl<'a> Work<'a> {
         ensures done { IfOk result (λ more. more ≡ false → NothingNew self.new) }
     {
         if let Some(line) = self.find_line() {
-            self.push_line(line)?;
+            self.push_line(line, 0)?;
             return Ok(true);
         }
         if let Some(view) = self.find_view() {

@@ -69,14 +69,15 @@ impl<'a> Work<'a> {
         let _ = &self.lock;
     }
 
-    pub fn is_new_line(&self, line: Line) -> bool
+    /// Whether a line may be pushed. `near` is the number of the successor by which its instruction is tried first.
+    pub fn is_new_line(&self, line: Line, near: u32) -> bool
         ensures { IsTrue result ↔ IsNewLine self.now line }
     {
         if !self.is_missing(line) {
             return false;
         }
         let lines: &[Line] = &self.lines;
-        is_line(&Cited::new(self.subject, self.lock, lines), line)
+        is_line(&Cited::new(self.subject, self.lock, lines, near), line)
     }
 
     pub fn is_new_view(&self, view: ViewStep) -> bool
@@ -87,15 +88,15 @@ impl<'a> Work<'a> {
         }
         let lines: &[Line] = &self.lines;
         let views: &[ViewStep] = &self.views;
-        is_view(&Cited::new(self.subject, self.lock, lines), views, view)
+        is_view(&Cited::new(self.subject, self.lock, lines, 0), views, view)
     }
 
     /// Pushes a line, where it is new.
-    pub fn push_line(&mut self, line: Line) -> Result<(), AllocError>
+    pub fn push_line(&mut self, line: Line, near: u32) -> Result<(), AllocError>
         ensures keeps { Keeps self.old self.new }
         ensures falls { OnOk result (IsNewLine self.old line → facts_room self.new.known < facts_room self.old.known) }
     {
-        if !self.is_new_line(line) {
+        if !self.is_new_line(line, near) {
             return Ok(());
         }
         if self.lines.len() >= u32::MAX as usize {

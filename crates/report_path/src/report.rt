@@ -1,4 +1,9 @@
 //! What a report is made of. Numbers count methods, components, edges of a lifecycle, and the bodies and views of the report.
+ghost use Rattle.std.specs.Prelude.{◌≡◌};
+ghost use Rattle.report_path.specs.Reports.{violation_of};
+
+use flow_model::Violation;
+use std::alloc::Global;
 
 /// An instruction of a body, by its pc, with the status before it, and the number of the body that it cites: of the method
 /// that is called there, up to its end.
@@ -72,4 +77,35 @@ pub struct Report {
     pub view: u32,
     pub edge: u32,
     pub body: Option<u32>,
+}
+
+impl Report {
+    /// A report of a violation that has no path yet. Takes no memory.
+    pub fn bare(alloc: Global, violation: Violation) -> Report
+        ensures { violation_of result ≡ violation }
+    {
+        Report {
+            component: violation.component,
+            callback: violation.callback,
+            lock: violation.lock,
+            status: violation.status,
+            bodies: Vec::new(alloc),
+            views: Vec::new(alloc),
+            view: 0,
+            edge: 0,
+            body: None,
+        }
+    }
+
+    /// The violation of which it is a report.
+    pub fn violation(&self) -> Violation
+        ensures { result ≡ violation_of self.now }
+    {
+        Violation {
+            component: self.component,
+            callback: self.callback,
+            lock: self.lock,
+            status: self.status,
+        }
+    }
 }

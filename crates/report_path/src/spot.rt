@@ -1,7 +1,7 @@
 //! What an instruction leads to from a status.
 ghost use Rattle.std.specs.Prelude.{◌≡◌, ◌<◌, ◌↔◌, Contains, IsTrue, length};
 ghost use Rattle.app_model.specs.Masks.{in_mask};
-ghost use Rattle.app_model.specs.Words.{code_len, handler_at, successor_at};
+ghost use Rattle.app_model.specs.Words.{code_len, handler_at, leaves_at, successor_at};
 ghost use Rattle.flow_model.specs.Subject.{is_open, returns_at};
 ghost use Rattle.app_model.specs.Subject.{callees_at};
 ghost use Rattle.report_path.specs.Tests.{ByCall, ByItself, CaughtAt, ComesBack, ComesFrom, IsCalled, IsSpot, LeadsOn, PassesBy, PassesTo, ThrownTo, masks_of};
@@ -93,38 +93,58 @@ impl<'a> Spot<'a> {
     fn passes(&self, number: u32, status: u8) -> bool
         ensures { result ≡ in_mask ((masks_of self.now).passes self.now.method self.now.index number self.now.status) status }
     {
+        status < 8 && has_status(self.passing(number), status as usize)
+    }
+
+    fn throws(&self, status: u8) -> bool
+        ensures { result ≡ in_mask ((masks_of self.now).throws self.now.method self.now.index self.now.status) status }
+    {
+        status < 8 && has_status(self.throwing(), status as usize)
+    }
+
+    /// The statuses with which it goes on by its successor of that number.
+    pub fn passing(&self, number: u32) -> u8
+        ensures { result ≡ (masks_of self.now).passes self.now.method self.now.index number self.now.status }
+    {
         let subject = self.subject;
-        let mask = pass(
+        pass(
             subject,
             self.lock,
             self.method,
             self.index,
             number,
             self.status,
-        );
-        status < 8 && has_status(mask, status as usize)
+        )
     }
 
-    fn throws(&self, status: u8) -> bool
-        ensures { result ≡ in_mask ((masks_of self.now).throws self.now.method self.now.index self.now.status) status }
+    /// The statuses with which it throws.
+    pub fn throwing(&self) -> u8
+        ensures { result ≡ (masks_of self.now).throws self.now.method self.now.index self.now.status }
     {
         let subject = self.subject;
-        let mask = throws(subject, self.lock, self.method, self.index, self.status);
-        status < 8 && has_status(mask, status as usize)
+        throws(subject, self.lock, self.method, self.index, self.status)
     }
 
-    fn successor(&self, number: u32) -> Option<u32>
+    pub fn successor(&self, number: u32) -> Option<u32>
         ensures { result ≡ successor_at self.now.subject.app self.now.method self.now.index number }
     {
         let subject = self.subject;
         subject.app.successor(self.method, self.index, number)
     }
 
-    fn handler(&self, number: u32) -> Option<u32>
+    pub fn handler(&self, number: u32) -> Option<u32>
         ensures { result ≡ handler_at self.now.subject.app self.now.method self.now.index number }
     {
         let subject = self.subject;
         subject.app.handler(self.method, self.index, number)
+    }
+
+    /// Whether a throw can leave the method there.
+    pub fn may_leave(&self) -> bool
+        ensures { result ≡ leaves_at self.now.subject.app self.now.method self.now.index }
+    {
+        let subject = self.subject;
+        subject.app.may_leave(self.method, self.index)
     }
 
     // Whether an instruction is one of its handlers.
@@ -147,15 +167,14 @@ impl<'a> Spot<'a> {
     fn is_thrown_to(&self, goal: Goal) -> bool
         ensures { IsTrue result ↔ ThrownTo self.now goal }
     {
-        let subject = self.subject;
         match goal {
             Goal::Before(to) => self.is_caught_at(to),
             Goal::Returned => false,
-            Goal::Thrown => subject.app.may_leave(self.method, self.index),
+            Goal::Thrown => self.may_leave(),
         }
     }
 
-    fn returns(&self) -> bool
+    pub fn returns(&self) -> bool
         ensures { result ≡ returns_at self.now.subject self.now.method self.now.index }
     {
         let subject = self.subject;
@@ -182,6 +201,23 @@ impl<'a> Spot<'a> {
         self.leads_on(goal, status) || (self.throws(status) && self.is_thrown_to(goal))
     }
 
+    // Whether it does by its successor of that number.
+    fn leads_to(&self, number: u32, goal: Goal, status: u8) -> bool
+        ensures { IsTrue result → ByItself self.now goal status }
+    {
+        match goal {
+            Goal::Before(to) => self.passes_by(to, status, number),
+            Goal::Returned | Goal::Thrown => false,
+        }
+    }
+
+    /// The same, where the successor of that number is tried first: a switch may have many.
+    pub fn leads_near(&self, number: u32, goal: Goal, status: u8) -> bool
+        ensures { IsTrue result ↔ ByItself self.now goal status }
+    {
+        self.leads_to(number, goal, status) || self.leads_itself(goal, status)
+    }
+
     // Whether it calls a method, which it enters at its status.
     fn calls(&self, method: u32) -> bool
         ensures { IsTrue result ↔ IsCalled self.now method }
@@ -192,7 +228,7 @@ impl<'a> Spot<'a> {
         has_callee(self.callees(), method)
     }
 
-    fn is_open(&self) -> bool
+    pub fn is_open(&self) -> bool
         ensures { result ≡ is_open self.now.subject self.now.lock self.now.method self.now.index self.now.status }
     {
         opens(
@@ -204,7 +240,7 @@ impl<'a> Spot<'a> {
         )
     }
 
-    fn callees(&self) -> &[MethodNo]
+    pub fn callees(&self) -> &[MethodNo]
         ensures { result.now ≡ callees_at self.now.subject self.now.method self.now.index }
     {
         let subject = self.subject;

@@ -58,13 +58,7 @@ fn violation_at(reports: &[Report], i: usize) -> Violation
     requires { i < length reports.now }
     ensures { result ≡ slice_index_or (map violation_of reports.now) i no_violation }
 {
-    let report = &reports[i];
-    Violation {
-        component: report.component,
-        callback: report.callback,
-        lock: report.lock,
-        status: report.status,
-    }
+    reports[i].violation()
 }
 
 // Adds the head of report i of so many, counted from 0.
