@@ -1,5 +1,5 @@
 -- What holds of a subject in scope holds of each that is alike: its violations, and what soundness asks of its tags.
-use Rattle.std.proofs.Common.{◌≡◌, ℕ, ◌<◌, ◌*◌, Bool, true, List, [], ◌∷◌, ◌++◌, length, if◌then◌else◌, sym, ap, ap₂, refl, ◌∙◌, subst}
+use Rattle.std.proofs.Common.{◌≡◌, ℕ, zero, suc, ◌<◌, ◌*◌, Bool, true, List, [], ◌∷◌, ◌++◌, length, map, get_or, Some, slice_get, if◌then◌else◌, sym, ap, ap₂, refl, ◌∙◌, subst, arith}
 use Rattle.std.specs.List.{flat_map}
 use Rattle.app_model.specs.Parts.{AppParts}
 use Rattle.app_model.specs.Subject.{AreReached, IsSubject, SubjectParts, answers_at, is_reached, owner_at, slot_count}
@@ -8,8 +8,9 @@ use Rattle.app_model.specs.Words.{code_len}
 use Rattle.app_model.specs.Shown.{lock_text}
 use Rattle.cert_laws.specs.Solved.{AreSolved}
 use Rattle.cert_line.specs.Parts.{BodyParts}
-use Rattle.certificate.specs.Parts.{CertParts}
+use Rattle.certificate.specs.Parts.{CertParts, LockRows}
 use Rattle.certificate.specs.Solved.{code_bodies, component_views, method_bodies, numbers_below, part_of}
+use Rattle.derivation.specs.AllReports.{AreAllReports}
 use Rattle.flow_model.specs.Derived.{Set}
 use Rattle.flow_model.specs.declared.policy.Violation.{Violation}
 use Rattle.flow_model.specs.InScope.{IsInScope}
@@ -20,6 +21,8 @@ use Rattle.one_scope.specs.Alike.{AreAlike}
 use Rattle.one_scope.proofs.Graphs.{HasSameTargets, callee_over, same_reach, turned}
 use Rattle.one_scope.proofs.Owners.{answers_for_over, beside, in_scope, is_second, owns_over, targets}
 use Rattle.one_scope.proofs.Rules.{same_least, same_violations}
+use Rattle.report_path.specs.declared.report.Report.{Report}
+use Rattle.report_path.specs.Reports.{IsValidReport, violation_of}
 use Rattle.run_model.specs.Tagged.{IsFollowed, IsTagged}
 use Rattle.run_model.proofs.Scope.{scope_tagged}
 use Rattle.solution.specs.Facts.{holds}
@@ -38,6 +41,24 @@ violations_over x y alike violations are = record {
     λ bad. (are.exact v).1 (same_violations y x (back x y alike) v.lock v.component v.callback v.status bad),
   );
 }
+
+pub reports_over : (x y : SubjectParts) → AreAlike x y → ((r : Report) → IsValidReport x r → IsValidReport y r) → (reports : List Report) → AreAllReports x reports → AreAllReports y reports
+reports_over x y alike over reports are = record {
+  valid = λ k d lt. over (get_or reports k d) (are.valid k d lt);
+  names = violations_over x y alike (map violation_of reports) are.names;
+}
+
+-- the parts of a certificate have the least solutions
+solved_in : (parts : List LockRows) (l : ℕ) → l < length parts → (part : LockRows) × (slice_get parts l ≡ Some part)
+solved_in [] l lt = absurd (omega (arith, lt))
+solved_in (part ∷ parts) zero lt = (part, refl)
+solved_in (part ∷ parts) (suc l) lt = solved_in parts l (omega (arith, lt))
+
+pub solved_least : (x : SubjectParts) (n : ℕ) (parts : List LockRows) → AreSolved x n parts → (l : ℕ) → l < n → HasLeast x l
+solved_least x n parts solved l below =
+    let part = solved_in parts l (let len = solved.len in omega (arith, below, len)) in
+    let is = solved.each l part.0 part.1 in
+    (holds is.facts, is.least)
 
 pub least_over : (x y : SubjectParts) → AreAlike x y → ((l : ℕ) → l < slot_count x → HasLeast x l) → (l : ℕ) → l < slot_count y → HasLeast y l
 unfolding slot_count

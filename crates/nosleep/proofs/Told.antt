@@ -1,5 +1,5 @@
 -- From the violations of a subject to the answers.
-use Rattle.std.proofs.Common.{◌≡◌, ◌≢◌, ℕ, ◌≤◌, ◌<◌, List, [], length, map, Ok, refl, subst, arith}
+use Rattle.std.proofs.Common.{◌≡◌, ◌≢◌, ℕ, ◌≤◌, ◌<◌, List, [], length, map, Ok, refl, sym, subst, arith}
 use Rattle.ns_base.specs.Answers.{limit_of}
 use Rattle.ns_base.specs.declared.answers.Counted.TheVariants.{CertBytes}
 use Rattle.ns_base.specs.declared.answers.Exit.{Exit}
@@ -10,10 +10,13 @@ use Rattle.cert_check.specs.Verdict.{IsVerdict}
 use Rattle.cert_check.specs.declared.verdict.Checked.TheVariants.{Valid}
 use Rattle.certificate.specs.Parts.{CertParts}
 use Rattle.certificate.specs.Texts.{IsCert, certificate_text}
+use Rattle.derivation.specs.AllReports.{AreAllReports}
 use Rattle.flow_model.specs.declared.policy.Violation.{Violation}
 use Rattle.flow_model.specs.Derived.{IsClosed, Set}
 use Rattle.flow_model.specs.Policy.{AreViolations, MeetsPolicy, none_given}
 use Rattle.flow_model.specs.Rules.{Rules}
+use Rattle.report_path.specs.declared.report.Report.{Report}
+use Rattle.report_path.specs.Reports.{violation_of}
 use Rattle.run_model.specs.Machine.{run_of}
 use Rattle.run_model.specs.Soundness.{LeavesNoneHeld, StandsWell}
 use Rattle.sha1.specs.Sha1.{sha1}
@@ -22,7 +25,7 @@ use Rattle.view_solver.proofs.Closed.{least_closed}
 use Rattle.view_solver.proofs.Judged.{derived_violation}
 use Rattle.one_scope.specs.Alike.{AreAlike}
 use Rattle.nosleep.specs.Certified.{IsCertificateOf}
-use Rattle.nosleep.specs.Certifying.{IsWritten, short, long}
+use Rattle.nosleep.specs.Certifying.{AreShown, IsWritten, short, long}
 use Rattle.nosleep.specs.Events.{AreHelds}
 use Rattle.nosleep.specs.Judged.{IsAccepted, IsChecked, IsReceived, IsSafe, IsVerified, accepts, certified, overlong}
 use Rattle.nosleep.specs.Outcome.{IsReport, IsTold, none, some}
@@ -30,10 +33,6 @@ use Rattle.nosleep.specs.Outcome.{IsReport, IsTold, none, some}
 told_of : (x y : SubjectParts) (violations : List Violation) (text : List ℕ) (exit : Exit) → AreAlike x y → IsTold x.app x.list violations text exit → IsTold y.app y.list violations text exit
 told_of x y violations text exit alike t =
     subst (λ (app : AppParts). IsTold app y.list violations text exit) alike.app (subst (λ (list : List ComponentParts). IsTold x.app list violations text exit) alike.list t)
-
-report_of : (x y : SubjectParts) (violations : List Violation) (text : List ℕ) (exit : Exit) → AreAlike x y → IsReport x.app x.list violations text exit → IsReport y.app y.list violations text exit
-report_of x y violations text exit alike t =
-    subst (λ (app : AppParts). IsReport app y.list violations text exit) alike.app (subst (λ (list : List ComponentParts). IsReport x.app list violations text exit) alike.list t)
 
 -- ---- receiver
 told_by : (x : SubjectParts) (violations : List Violation) (text : List ℕ) (exit : Exit) → AreViolations x violations → (violations ≡ [] → IsSafe x) → IsTold x.app x.list violations text exit → IsReceived x text exit
@@ -63,15 +62,19 @@ all_safe x violations are least stands leaves empty l below choices =
     (stands l set below closed meets choices, leaves l set below closed meets choices)
 
 -- ---- verify
-pub report_answer : (list : List ℕ) (dex : List (List ℕ)) (x : SubjectParts) (violations : List Violation) (text : List ℕ) (exit : Exit) → ((y : SubjectParts) → AreAlike x y → AreViolations y violations) → violations ≢ []
-    → IsReport x.app x.list violations text exit → (y : SubjectParts) → AreAlike x y → IsVerified list dex y text exit
-report_answer list dex x violations text exit each more t y alike =
-    let r = report_of x y violations text exit alike t in
-    IsVerified.reports (violations, each y alike, more, r.1) r.0
+shown_over : (x y : SubjectParts) (reports : List Report) (text : List ℕ) (exit : Exit) → AreAlike x y → AreShown x.app x.list reports text exit → AreShown y.app y.list reports text exit
+shown_over x y reports text exit alike t =
+    subst (λ (app : AppParts). AreShown app y.list reports text exit) alike.app (subst (λ (list : List ComponentParts). AreShown x.app list reports text exit) alike.list t)
 
-pub report_helds : (x : SubjectParts) (violations : List Violation) (text : List ℕ) (exit : Exit) → ((y : SubjectParts) → AreAlike x y → AreViolations y violations)
-    → IsReport x.app x.list violations text exit → AreHelds (Ok x) exit violations
-report_helds x violations text exit each r = (λ y alike here. each y alike, λ no. absurd (no r.0))
+pub report_answer : (list : List ℕ) (dex : List (List ℕ)) (x : SubjectParts) (reports : List Report) (text : List ℕ) (exit : Exit) → ((y : SubjectParts) → AreAlike x y → AreAllReports y reports) → reports ≢ []
+    → AreShown x.app x.list reports text exit → (y : SubjectParts) → AreAlike x y → IsVerified list dex y text exit
+report_answer list dex x reports text exit each more t y alike =
+    let r = shown_over x y reports text exit alike t in
+    IsVerified.reports (reports, each y alike, more, r.1) r.0
+
+pub report_helds : (x : SubjectParts) (reports : List Report) (found : List Violation) (text : List ℕ) (exit : Exit) → found ≡ map violation_of reports → ((y : SubjectParts) → AreAlike x y → AreAllReports y reports)
+    → AreShown x.app x.list reports text exit → AreHelds (Ok x) exit found
+report_helds x reports found text exit same each r = (λ y alike here. subst (λ (vs : List Violation). AreViolations y vs) (sym same) (each y alike).names, λ no. absurd (no r.0))
 
 -- a certificate that is short enough is one that check accepts
 written_by : (list : List ℕ) (dex : List (List ℕ)) (y : SubjectParts) (cert : CertParts) (text : List ℕ) (exit : Exit) → IsCertificateOf y (sha1 list) (map sha1 dex) cert → IsCert cert → IsAccepted y

@@ -11,10 +11,13 @@ use Rattle.cert_check.specs.declared.verdict.Checked.TheVariants.{Valid}
 use Rattle.certificate.specs.Parts.{CertParts}
 use Rattle.certificate.specs.Texts.{IsCert, certificate_text}
 use Rattle.certificate.specs.Wrong.{HasFirstWrong}
+use Rattle.derivation.specs.AllReports.{AreAllReports}
 use Rattle.flow_model.specs.declared.policy.Violation.{Violation}
 use Rattle.flow_model.specs.Policy.{AreViolations}
+use Rattle.report_path.specs.declared.report.Report.{Report}
 use Rattle.report_text.specs.Heads.{heads_text}
 use Rattle.report_text.specs.Limits.{over_limit_text}
+use Rattle.report_text.specs.Reports.{reports_text}
 use Rattle.report_text.specs.Texts.{accept_text}
 use Rattle.report_text.specs.Verdicts.{bad_certificate_text, checked_text, valid_text}
 use Rattle.run_model.specs.Machine.{run_of}
@@ -27,6 +30,10 @@ use Rattle.nosleep.specs.Words.{Form, Receiver, Verify, Check}
 -- went where it is not followed
 abbrev pub IsSafe : SubjectParts → Type 0
 IsSafe x = (l : ℕ) → l < slot_count x → (choices : List ℕ) → StandsWell x l (run_of x choices) × LeavesNoneHeld x l (run_of x choices)
+
+-- the rules derive some violations, and these are their reports: of each one that is valid, in order, and no other
+abbrev pub HasReports : List ℕ → SubjectParts → Type 0
+HasReports text x = (reports : List Report) × AreAllReports x reports × (reports ≢ []) × (text ≡ reports_text x.app x.list reports)
 
 -- the rules derive some violations, and these are their heads
 abbrev pub HasHeads : List ℕ → SubjectParts → Type 0
@@ -77,7 +84,7 @@ pub record IsOverlong (list : List ℕ) (dex : List (List ℕ)) (x : SubjectPart
   pub says : text ≡ over_limit_text CertBytes
 
 pub data IsVerified (list : List ℕ) (dex : List (List ℕ)) (x : SubjectParts) (text : List ℕ) (exit : Exit) : Type 0 where
-  reports : HasHeads text x → exit ≡ exits.Reports → IsVerified list dex x text exit
+  reports : HasReports text x → exit ≡ exits.Reports → IsVerified list dex x text exit
   certified : IsCertified list dex x text → exit ≡ exits.Accept → IsVerified list dex x text exit
   overlong : IsOverlong list dex x text → exit ≡ exits.Limit → IsVerified list dex x text exit
 

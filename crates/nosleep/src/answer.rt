@@ -17,12 +17,12 @@ use crate::checking::check_bytes;
 use crate::files::{Taken, names_of, take_files};
 use crate::finding::{Found, find_by_list, find_listed};
 use crate::judging::{Judged, judge, with_none};
-use crate::refusing::{Answer, over};
+use crate::refusing::{Answer, found_text, over};
 use crate::words::{Asked, Options, ordered_by};
 use app_model::Kind;
 use component_list::{Listed, ListedRow};
 use ns_base::{Counted, Event, Exit, Shelf, limit, number};
-use report_text::{cannot_read, usage};
+use report_text::{cannot_read, usage_text};
 use std::alloc::{AllocError, Global};
 
 /// What is written and told, and with which options.
@@ -51,7 +51,7 @@ pub fn find_answer<F: Shelf>(
             options: Options::NONE,
             answer: Answer {
                 exit: Exit::Usage,
-                text: usage(alloc)?,
+                text: found_text(usage_text(alloc))?,
             },
             events,
         });

@@ -1,48 +1,53 @@
-//! The answer of `verify` to a subject in scope: the certificate of its least solutions, or the heads of its violations.
-ghost use Rattle.std.specs.Prelude.{◌<◌, ◌+◌, length, map, Ok, IfOk};
+//! The answer of `verify` to a subject in scope: the certificate of its least solutions, or the reports of its violations.
+ghost use Rattle.std.specs.Prelude.{◌<◌, ◌+◌, length, map, Ok, IfOk, OnOk};
 ghost use Rattle.app_model.specs.Subject.{SubjectParts, slot_count};
 ghost use Rattle.cert_laws.specs.Solved.{IsSolved};
+ghost use Rattle.derivation.specs.AllReports.{AreGathered};
 ghost use Rattle.one_scope.specs.Alike.{AreAlike};
-ghost use Rattle.view_solver.specs.Reported.{AreLockMasks};
 ghost use Rattle.nosleep.specs.Events.{AreHelds};
 ghost use Rattle.nosleep.specs.Judged.{IsVerified};
-ghost use Rattle.nosleep.specs.Certifying.{IsSolvedTo, IsWritten};
+ghost use Rattle.nosleep.specs.Certifying.{AreShown, IsSolvedTo, IsWritten};
 
 use crate::checking::digests_of;
-use crate::judging::{Judged, report};
-use crate::refusing::{Answer, over};
+use crate::judging::{Judged, violations_of};
+use crate::refusing::{Answer, found_text, over};
 use app_model::Subject;
 use cert_laws::{accepted_certificates, alike_verdicts, written_certificates};
 use certificate::{Certificate, LockPart, lock_part, write_certificate};
+use derivation::{derive_more, order_reports};
 use ns_base::{Counted, Exit, LockNo, OutOfMemory, limit};
+use report_laws::alike_reports;
+use report_path::Report;
+use report_text::reports_text;
 use run_model::tagged_soundness;
 use sha1::Sha1;
 use std::alloc::{AllocError, Global};
-use view_solver::{bad_masks, list_violations, solve_lock};
+use view_solver::solve_lock;
 
-/// What the least solutions of lock fields give: of each the statuses at which callbacks end badly, and its part of the
-/// certificate.
+/// What the least solutions of lock fields give: of each its part of the certificate, and the reports of its violations.
 #[derive(Drop)]
 pub struct Solved {
-    pub masks: Vec<Vec<u8>>,
     pub parts: Vec<LockPart>,
+    pub reports: Vec<Report>,
 }
 
-// The masks and the part of one lock field. Its solution is let go then.
+// The part of one lock field, whose reports are added. Its solution and its log are let go then.
 fn solve_one(
     alloc: Global,
     subject: &Subject,
     lock: LockNo,
-) -> Result<(Vec<u8>, LockPart), OutOfMemory>
-    requires { lock.0 < slot_count subject.now }
-    ensures masks { IfOk result (λ pair. AreLockMasks subject.now lock.0 pair.0.items) }
-    ensures part { IfOk result (λ pair. IsSolved subject.now lock.0 pair.1) }
+    reports: &mut Vec<Report>,
+) -> Result<LockPart, OutOfMemory>
+    requires lock { lock.0 < slot_count subject.now }
+    requires before { AreGathered subject.now lock.0 reports.old.items }
+    ensures part { IfOk result (IsSolved subject.now lock.0) }
+    ensures reports { OnOk result (AreGathered subject.now (lock.0 + 1) reports.new.items) }
 {
     subject.told();
     let solution = solve_lock(alloc, subject, lock)?;
-    let masks = bad_masks(alloc, subject, lock, &solution)?;
     let part = lock_part(alloc, subject, lock, &solution)?;
-    Ok((masks, part))
+    derive_more(alloc, subject, lock, &solution, reports)?;
+    Ok(part)
 }
 
 fn solve_all(alloc: Global, subject: &Subject) -> Result<Solved, AllocError>
@@ -50,18 +55,15 @@ fn solve_all(alloc: Global, subject: &Subject) -> Result<Solved, AllocError>
 {
     subject.told();
     written_certificates();
-    let mut masks = Vec::new(alloc);
     let mut parts = Vec::new(alloc);
+    let mut reports = Vec::new(alloc);
     for lock in 0..subject.lock_count() {
-        match solve_one(alloc, subject, LockNo(lock)) {
-            Ok((mask, part)) => {
-                masks.push(mask)?;
-                parts.push(part)?;
-            }
+        match solve_one(alloc, subject, LockNo(lock), &mut reports) {
+            Ok(part) => parts.push(part)?,
             Err(OutOfMemory) => return Err(AllocError),
         }
     }
-    Ok(Solved { masks, parts })
+    Ok(Solved { parts, reports })
 }
 
 /// The answer of `verify` to a subject in scope, from a list and DEX files of these bytes.
@@ -80,21 +82,31 @@ pub fn certify(
     alike_verdicts();
     written_certificates();
     accepted_certificates();
-    let solved = solve_all(alloc, subject)?;
-    let Ok(found) = list_violations(alloc, subject, &solved.masks) else {
-        return Err(AllocError);
-    };
+    alike_reports();
+    let Solved { parts, mut reports } = solve_all(alloc, subject)?;
+    order_reports(subject, &mut reports);
+    let found = violations_of(alloc, &reports)?;
     if !found.is_empty() {
-        let answer = report(alloc, subject, &found)?;
+        let answer = show(alloc, subject, &reports)?;
         return Ok(Judged { answer, found });
     }
     let cert = Certificate {
         list: Sha1::digest(list),
         dex: digests_of(alloc, files)?,
-        locks: solved.parts,
+        locks: parts,
     };
     let answer = write(alloc, &cert)?;
     Ok(Judged { answer, found })
+}
+
+// The answer to some violations: their reports.
+fn show(alloc: Global, subject: &Subject, reports: &[Report]) -> Result<Answer, AllocError>
+    ensures { IfOk result (λ a. AreShown subject.now.app subject.now.list reports.now a.text.items a.exit) }
+{
+    Ok(Answer {
+        exit: Exit::Reports,
+        text: found_text(reports_text(alloc, subject, reports))?,
+    })
 }
 
 // The text of a certificate, where it is short enough.

@@ -1,5 +1,5 @@
 //! Answers, and those to what is refused.
-ghost use Rattle.std.specs.Prelude.{◌≡◌, List, map, slice_get, IfOk};
+ghost use Rattle.std.specs.Prelude.{◌≡◌, List, map, slice_get, Ok, IfOk};
 ghost use Rattle.ns_base.specs.declared.answers.Exit.TheVariants as exits;
 ghost use Rattle.dex_file.specs.Content.{FileContent};
 ghost use Rattle.nosleep.specs.Files.{AreContents, AreSmall, class_in, named_by};
@@ -13,8 +13,10 @@ use component_list::ListFault;
 use dalvik_decode::CodeFault;
 use dex_bytes::DexFault;
 use dex_file::{FileFault, class_name};
-use ns_base::{Counted, Exit};
-use report_text::{bad_certificate, bad_code, bad_dex, bad_link, bad_list, over_limit, refused};
+use ns_base::{Counted, Exit, OutOfMemory};
+use report_text::{
+    bad_certificate, bad_code, bad_dex, bad_link, bad_list, over_limit, refusal_text,
+};
 use scope_check::ScopeFault;
 use std::alloc::{AllocError, Global};
 use tag_flow::TagFault;
@@ -24,6 +26,16 @@ use tag_flow::TagFault;
 pub struct Answer {
     pub exit: Exit,
     pub text: Vec<u8>,
+}
+
+/// A text, or want of memory.
+pub fn found_text(text: Result<Vec<u8>, OutOfMemory>) -> Result<Vec<u8>, AllocError>
+    ensures { IfOk result (λ bytes. text ≡ Ok bytes) }
+{
+    match text {
+        Ok(bytes) => Ok(bytes),
+        Err(OutOfMemory) => Err(AllocError),
+    }
 }
 
 /// The answer to the first fault of a list.
@@ -131,7 +143,7 @@ pub fn refuse_scope(alloc: Global, fault: &ScopeFault) -> Result<Answer, AllocEr
         ScopeFault::Memory => Err(AllocError),
         ScopeFault::Rule { .. } => Ok(Answer {
             exit: Exit::Scope,
-            text: refused(alloc, fault)?,
+            text: found_text(refusal_text(alloc, fault))?,
         }),
     }
 }
