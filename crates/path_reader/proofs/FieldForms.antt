@@ -259,10 +259,14 @@ items_above (a ∷ steps) fits = (item_above a fits.0, items_above steps fits.1)
 
 -- ---- steps as path_text has them
 
+item_shape : (p slash s c : List ℕ) → p ++ (slash ++ (s ++ c)) ≡ p ++ slash ++ s ++ c
+item_shape p slash s c = simp append_assoc
+
 item_text : (pc status : ℕ) (cites : Option ℕ) → 32 ∷ join_with_byte 47 (decimal pc ∷ status_name status ∷ cite_parts cites) ≡ field pc ++ codes "/" ++ status_name status ++ cited cites
 unfolding field
-item_text pc status None = simp (append_assoc, append-nil)
-item_text pc status (Some j) = simp append_assoc
+item_text pc status None =
+    ap (λ (l : List ℕ). 32 ∷ (decimal pc ++ (47 ∷ l))) (sym (append-nil (status_name status))) ∙ item_shape (32 ∷ decimal pc) (codes "/") (status_name status) []
+item_text pc status (Some j) = item_shape (32 ∷ decimal pc) (codes "/") (status_name status) (codes "/" ++ decimal j)
 
 pub join_items : (x : List ℕ) (steps : List Step) → join_with_byte 32 (x ∷ map item steps) ≡ x ++ flat_map step_text steps
 unfolding step_text

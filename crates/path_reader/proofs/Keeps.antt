@@ -191,12 +191,12 @@ keeps s t (lines.Head h) x more bytes line true within at is fits free e = absur
 keeps s t (lines.Body n) x more bytes line true within at is fits free e =
     let g = cond_some (may_have_body s n.number) (record s { bodies = s.bodies ++ n.body ∷ [] }) t e in
     let made = body_keeps s n at.0 at.1 bytes (line ++ 10 ∷ []) at.2 g.0 fits.0 fits.1 (ap (λ (b : List ℕ). b ++ 10 ∷ []) is ∙ body_feed n) in
-    subst (λ (t : State). SoFar t (bytes ++ (line ++ 10 ∷ []))) g.1 (rw within (at.0, at.1, made))
+    subst (λ (t : State). SoFar t (bytes ++ (line ++ 10 ∷ []))) g.1 (subst (λ (b : Bool). At b (record s { bodies = s.bodies ++ n.body ∷ [] }) (bytes ++ (line ++ 10 ∷ []))) (sym within) (at.0, at.1, made))
 keeps s t (lines.Body n) x more bytes line false out at is fits free e = absurd (let f = rw out at e in cc)
 keeps s t (lines.View n) x more bytes line true within at is fits free e =
     let g = cond_some (may_have_view s n.number) (record s { views = s.views ++ n.view ∷ [] }) t e in
     let made = view_keeps s n at.0 at.1 bytes (line ++ 10 ∷ []) at.2 g.0 fits.0 fits.1 (ap (λ (b : List ℕ). b ++ 10 ∷ []) is ∙ view_feed n) in
-    subst (λ (t : State). SoFar t (bytes ++ (line ++ 10 ∷ []))) g.1 (rw within (at.0, at.1, made))
+    subst (λ (t : State). SoFar t (bytes ++ (line ++ 10 ∷ []))) g.1 (subst (λ (b : Bool). At b (record s { views = s.views ++ n.view ∷ [] }) (bytes ++ (line ++ 10 ∷ []))) (sym within) (at.0, at.1, made))
 keeps s t (lines.View n) x more bytes line false out at is fits free e = absurd (let f = rw out at e in cc)
 keeps s t (lines.Exit l) x more bytes line true within at is fits free e =
     let g = cond_some s.inside (record { done = s.done ++ ended s l ∷ []; total = s.total; inside = false; bodies = []; views = [] }) t e in

@@ -5,8 +5,8 @@ use Rattle.cert_line.specs.Reading.{◌>>=◌, pieces}
 use Rattle.path_reader.specs.Reading.{step_in, steps_in}
 use Rattle.report_path.specs.declared.report.Step.{Step}
 
-regroup : (front : List Step) (a : Step) (read : Option (List Step)) → option_map (λ more. front ++ more) (read >>= λ as. Some (a ∷ as)) ≡ option_map (λ more. (front ++ a ∷ []) ++ more) read
-regroup front a (Some as) = ap Some (simp append_assoc)
+regroup : (front : List Step) (a : Step) (read : Option (List Step)) → option_map (λ more. front ++ more) (read >>= λ ss. Some (a ∷ ss)) ≡ option_map (λ more. (front ++ a ∷ []) ++ more) read
+regroup front a (Some ss) = ap Some (simp append_assoc)
 regroup front a None = refl
 
 pub one_more : (front : List Step) (f : List ℕ) (a : Step) (fs left : List (List ℕ)) (total : Option (List Step)) → left ≡ f ∷ fs → Some a ≡ step_in (pieces 47 f) → option_map (λ more. front ++ more) (steps_in left) ≡ total → option_map (λ more. (front ++ a ∷ []) ++ more) (steps_in fs) ≡ total
