@@ -107,7 +107,7 @@ pub lines_snoc : {A : Type 0} (line : ℕ → A → List ℕ) (xs : List A) (x :
 lines_snoc line xs x =
     let len : length (xs ++ x ∷ []) ≡ suc (length xs) = omega (arith, length-append xs (x ∷ [])) in
     rw len (
-      ap (λ (l : List ℕ). l ++ line_at line (length xs) (slice_get (xs ++ x ∷ []) (length xs))) (lines_front line xs (x ∷ []) (length xs) (omega arith)) ∙ ap (λ (o : _). lines_below line xs (length xs) ++ line_at line (length xs) o) (get_seam xs x)
+    ap (λ (l : List ℕ). l ++ line_at line (length xs) (slice_get (xs ++ x ∷ []) (length xs))) (lines_front line xs (x ∷ []) (length xs) (omega arith)) ∙ ap (λ (o : _). lines_below line xs (length xs) ++ line_at line (length xs) o) (get_seam xs x)
     )
 
 pub snoc_at : {A : Type 0} (xs : List A) (k : ℕ) → k < length xs → (x : A) × (slice_get xs k ≡ Some x) × (take (suc k) xs ≡ take k xs ++ x ∷ [])

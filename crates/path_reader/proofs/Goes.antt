@@ -132,8 +132,7 @@ unfolding follow
 goes_head done m n rest either lt fits free =
     let h : Head = record { number = length done + 1; total = n } in
     let fits2 : FitsRow h.number × FitsRow h.total = (omega (arith, lt, fits), fits) in
-    let again = head_line_again h rest fits2 free in
-    (
+    let again = head_line_again h rest fits2 free in (
       again.0 ∷ [],
       (again.1, tt),
       again.2 ∙ sym (append-nil (again.0 ++ 10 ∷ [])),

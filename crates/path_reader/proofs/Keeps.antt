@@ -232,8 +232,7 @@ end_text s bytes false out at e =
     let p = and_parts (not s.inside) (length s.done == s.total) e in
     let done : length s.done ≡ s.total = eqb-true _ _ p.1 in
     let counted : length at.0 ≡ length s.done = sym (length-map at.0 (λ t. t.report)) ∙ ap length at.1.before.reports in
-    let total : length at.0 ≡ s.total = counted ∙ done in
-    (
+    let total : length at.0 ≡ s.total = counted ∙ done in (
       at.0,
       record {
         reports = at.1.before.reports;

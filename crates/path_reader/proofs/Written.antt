@@ -50,8 +50,7 @@ all_told (w ∷ ws) h = (record { no_feed = h.0.0; read = h.0.1 }, all_told ws h
 
 pub read_back : (ws : List Written) → IsReadBack ws
 read_back ws = λ is fits.
-    let len : length (map told ws) ≡ length ws = length-map ws told in
-    (
+    let len : length (map told ws) ≡ length ws = length-map ws told in (
       map told ws,
       record {
         reports = reports_of ws;

@@ -120,9 +120,9 @@ last_in _ = None
 unfoldable pub head_of : List ℕ → List ℕ → List ℕ → Option Head
 head_of i of n =
     if bytes_eq of (codes "of") then
-      (row_in i >>= λ number. colon_in (pieces 58 n) >>= λ total. Some (record { number = number; total = total }))
+    (row_in i >>= λ number. colon_in (pieces 58 n) >>= λ total. Some (record { number = number; total = total }))
     else
-      None
+    None
 
 -- the rest of the line is passed over
 unfoldable pub head_in : List (List ℕ) → Option Head

@@ -2,9 +2,7 @@
 ghost use Rattle.std.specs.Prelude.{◌≡◌, ◌∷◌, IfOk, option_copied, option_map};
 ghost use Rattle.path_reader.specs.Reading.{body_in, front_in, front_of, head_in, head_of, last_in, last_of, left_by, line_at, line_in, view_in, view_of};
 
-use crate::fields::{
-    colon_row, is_thrown, next, row, row_or_dash, small, status, three_of,
-};
+use crate::fields::{colon_row, is_thrown, next, row, row_or_dash, small, status, three_of};
 use crate::steps::steps;
 use crate::ways::way;
 use report_path::{BodyPath, By, ViewStep};
@@ -72,13 +70,7 @@ pub enum Line {
 }
 
 #[tactic(auto, unfolding(crate::specs::Reading::front_of))]
-fn front_from(
-    number: &[u8],
-    method: &[u8],
-    entry: &[u8],
-    end: &[u8],
-    exit: &[u8],
-) -> Option<Front>
+fn front_from(number: &[u8], method: &[u8], entry: &[u8], end: &[u8], exit: &[u8]) -> Option<Front>
     ensures { result ≡ front_of number.now method.now entry.now end.now exit.now }
 {
     let number = row(number)?;

@@ -45,7 +45,7 @@ impl Model for Reader {
 fn is_next(done: usize, total: u32, head: Head) -> bool
     ensures { result ≡ ((head.number == done + 1) && nat_le head.number head.total && ((total == 0) || (total == head.total))) }
 {
-    if head.number as usize != done + 1 || head.number > head.total {
+    if head.number as u128 != done as u128 + 1 || head.number > head.total {
         return false;
     }
     total == 0 || total == head.total

@@ -118,7 +118,10 @@ static WRONG: [(&[u8], u64); 34] = [
     (b"report 1 of 1: a\nbody 0 0 A ret A\nbody 0 0 A ret A\n", 3),
     (b"report 1 of 1: a\nview 1 0 0 A start\n", 2),
     (b"report 1 of 1: a\nview 0 0 256 A start\n", 2),
-    (b"report 1 of 1: a\nview 0 0 0 A start\nbody 0 0 A ret A\n", 3),
+    (
+        b"report 1 of 1: a\nview 0 0 0 A start\nbody 0 0 A ret A\n",
+        3,
+    ),
 ];
 
 #[test]
