@@ -1,7 +1,6 @@
 //! Texts of reports: one with every kind of line, and wrong ones with their first wrong line.
 use crate::{ReadBack, read_reports};
 use path_text::put_path;
-use report_path::{By, Report};
 use std::alloc::Global;
 use std::test::Fail;
 
@@ -40,47 +39,30 @@ fn what_was_written_is_read(rt: HostRuntime) -> Result<(), Fail> {
     let alloc = rt.alloc();
     let text = two_reports(alloc)?;
     let reports = read_reports(alloc, &text).ok().ok_or("it is a text")?;
-    assert_eq!(rt; reports.len(), 2);
-    let mut first = Vec::new(alloc);
-    put_path(&mut first, &reports[0])?;
-    assert_eq!(rt; first.as_slice(), FIRST);
-    let mut second = Vec::new(alloc);
-    put_path(&mut second, &reports[1])?;
-    assert_eq!(rt; second.as_slice(), SECOND);
-    Ok(())
-}
-
-#[test]
-fn fields_go_to_their_places(rt: HostRuntime) -> Result<(), Fail> {
-    let alloc = rt.alloc();
-    let text = two_reports(alloc)?;
-    let reports = read_reports(alloc, &text).ok().ok_or("it is a text")?;
-    let first: &Report = &reports[0];
-    assert_eq!(rt; (first.component, first.edge, first.callback), (9, 8, 8));
-    assert_eq!(rt; (first.lock, first.status, first.view), (63, 2, 4));
-    assert_eq!(rt; first.body, Some(0));
-    assert_eq!(rt; reports[1].body, None);
-    assert_eq!(rt; first.bodies[0].steps[2].cites, Some(7));
-    assert_eq!(rt; first.bodies[0].steps[1].cites, None);
-    assert_eq!(rt; first.views[1].by, By::Outside { view: 0, edge: 5 });
+    let mut wanted = FIRST.to_vec(alloc)?;
+    wanted.extend_from_slice(SECOND)?;
+    let mut written = Vec::new(alloc);
+    for report in &reports {
+        put_path(&mut written, report)?;
+        assert_eq!(rt; report.callback, report.edge);
+    }
+    assert_eq!(rt; written.as_slice(), wanted.as_slice());
     Ok(())
 }
 
 #[test]
 fn texts_that_end_too_early(rt: HostRuntime) -> Result<(), Fail> {
-    let alloc = rt.alloc();
-    let text = two_reports(alloc)?;
-    let mut line = 1;
+    let text = two_reports(rt.alloc())?;
+    let mut line: u64 = 1;
     for n in 1..text.len() {
-        let (front, rest) = text.split_at(n);
-        if front[n - 1] == b'\n' {
-            line += 1;
+        let front = text.split_at(n).0;
+        if front.last() == Some(&b'\n') {
+            line = line.wrapping_add(1);
         }
-        assert_eq!(rt; wrong_line(alloc, front), line);
-        assert!(rt; rest.len() > 0);
+        assert_eq!(rt; wrong_line(rt.alloc(), front), line);
     }
-    assert_eq!(rt; wrong_line(alloc, &text), 0);
-    assert_eq!(rt; wrong_line(alloc, b""), 0);
+    assert_eq!(rt; wrong_line(rt.alloc(), &text), 0);
+    assert_eq!(rt; wrong_line(rt.alloc(), b""), 0);
     Ok(())
 }
 
