@@ -34,6 +34,10 @@ path_same r =
     lines_map body_parts body_line body_text body_same r.bodies.items (length r.bodies.items) ∙ ap (λ (n : ℕ). lines_below body_text (map body_parts r.bodies.items) n) (sym (length-map r.bodies.items body_parts)) in
     ap (λ (l : List ℕ). l ++ lines_below view_line r.views.items (length r.views.items) ++ exit_line r) bodies ∙ ap (λ (l : List ℕ). lines_below body_text (map body_parts r.bodies.items) (length (map body_parts r.bodies.items)) ++ lines_below view_line r.views.items (length r.views.items) ++ l) (exit_same r)
 
+pub text_is : (r : Report) → path_text r ≡ report_text (report_parts r)
+unfolding report_text exit_text
+text_is r = path_same r
+
 abbrev told : Written → Told
 told w = record { rest = w.head_rest; report = as_read (report_parts w.written) }
 

@@ -1,9 +1,10 @@
 //! The reports that a text spells, or the first wrong line.
 ghost use Rattle.std.specs.Prelude.{ℕ, ◌≡◌, ◌+◌, ◌==◌, ◌&&◌, ◌||◌, Err, IfOk, List, Ok, length, map, nat_le};
 ghost use Rattle.cert_line.specs.Reading.{pieces};
+ghost use Rattle.path_text.specs.Lines.{path_text};
 ghost use Rattle.path_reader.specs.Parts.{ReportParts};
 ghost use Rattle.path_reader.specs.Reading.{accepted, follow, is_end, may_begin, may_have_body, may_have_view, outcome, read, reading, start, step};
-ghost use Rattle.path_reader.specs.Texts.{IsReadBack, IsReportsText, Written, report_parts};
+ghost use Rattle.path_reader.specs.Texts.{IsReadBack, IsReportsText, Written, report_parts, report_text};
 ghost use Rattle.path_reader.specs.Wrong.{Gives, HasFirstWrong, OnLine};
 ghost use Rattle.path_reader.specs.declared.lines.Line.TheVariants as lines;
 
@@ -182,7 +183,9 @@ fn reports_in(alloc: Global, bytes: &[u8]) -> Result<Vec<Report>, ReadBack>
     }
 }
 
-/// What was written is read back, with the number of its edge as the callback of each report.
+/// The text of a report as it is written is that of its parts, and what was written is read back, with the number of its
+/// edge as the callback of each report.
 pub fn written_is_read()
-    ensures { (written : List Written) → IsReadBack written }
+    ensures text { (report : Report) → path_text report ≡ report_text (report_parts report) }
+    ensures read { (written : List Written) → IsReadBack written }
 {}
