@@ -28,7 +28,7 @@ component_in : (list : List ComponentParts) (c e : ℕ) (edge : Edge) (row : Opt
 component_in list c e edge None at is = cc
 component_in list c e edge (Some component) at is = slice_get_within list c component at
 
-component_there : (list : List ComponentParts) (c e : ℕ) (edge : Edge) → edge_at list c e ≡ Some edge → c < length list
+pub component_there : (list : List ComponentParts) (c e : ℕ) (edge : Edge) → edge_at list c e ≡ Some edge → c < length list
 unfolding edge_at
 component_there list c e edge is = component_in list c e edge (slice_get list c) refl is
 

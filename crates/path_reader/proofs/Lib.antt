@@ -1,0 +1,9 @@
+pub mod StepFields
+pub mod OneLine
+pub mod FieldForms
+pub mod LineForms
+pub mod Feeds
+pub mod Keeps
+pub mod Goes
+pub mod FirstWrong
+pub mod Written
