@@ -7,6 +7,7 @@ mod answer;
 mod certifying;
 mod checking;
 mod contents;
+mod events;
 mod files;
 mod finding;
 mod judging;
