@@ -7,7 +7,7 @@ use Rattle.ns_base.specs.declared.answers.Event.{Event}
 use Rattle.ns_base.specs.declared.answers.Exit.{Exit}
 use Rattle.ns_base.specs.declared.answers.Exit.TheVariants as exits
 use Rattle.watchers.specs.Telling.{IsTold, Seen, ToldAll, is_chosen}
-use Rattle.watchers.specs.declared.telling.Told.{Told}
+use Rattle.nosleep.specs.declared.telling.Told.{Told}
 use Rattle.app_model.specs.Subject.{SubjectParts}
 use Rattle.watchers.specs.Writing.{WroteAll}
 use Rattle.nosleep.specs.Answer.{IsExact, IsFailure, IsStarved, IsUnjudged, IsUntold, Judges}

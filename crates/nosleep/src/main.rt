@@ -13,6 +13,7 @@ mod finding;
 mod judging;
 mod reading;
 mod refusing;
+mod telling;
 #[cfg(test)]
 mod tests;
 mod top;
