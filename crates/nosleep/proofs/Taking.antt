@@ -1,5 +1,5 @@
 -- Files whose bytes were taken, one by one, and those whose bytes are told.
-use Rattle.std.proofs.Common.{◌≡◌, ℕ, suc, ◌+◌, List, [], ◌∷◌, ◌++◌, length, Option, Some, ⊎_elim, sym, ap, subst, refl, ◌∙◌, arith, length-append, slice_get, get_or}
+use Rattle.std.proofs.Common.{◌≡◌, ℕ, suc, ◌+◌, List, [], ◌∷◌, ◌++◌, length, map, Vec, vec_len, Global, Option, Some, ⊎_elim, sym, ap, subst, refl, ◌∙◌, arith, length-append, slice_get, get_or}
 use Rattle.std.proofs.lemmas.Option.{slice_get-get_or, slice_get_within}
 use Rattle.ns_base.specs.Outside.{Rose}
 use Rattle.ns_base.specs.declared.answers.Event.{Event}
@@ -45,6 +45,13 @@ pub keeps_next : {F : Type 0} (content : F → List ℕ → Option (List ℕ)) (
     → KeepsShelf content faults old new
 keeps_next content faults old between new first next = record { same = λ n. next.same n ∙ first.same n; later = omega (arith, first.later, next.later) }
 
+-- nothing is read yet
+pub none_read : (events : Vec Event Global) (all : List (Vec ℕ Global)) → vec_len events ≡ 0 → all ≡ [] → events.items ≡ reads_from 0 (map (λ bytes. bytes.items) all)
+none_read events all empty none = by events.items (omega (arith, events.ok, empty)) ∙ ap (λ (xs : List (Vec ℕ Global)). reads_from 0 (map (λ bytes. bytes.items) xs)) (sym none) where
+  by : (xs : List Event) → length xs ≡ 0 → xs ≡ []
+  by [] e = refl
+  by (x ∷ xs) e = absurd (omega (arith, e))
+
 -- one more event of reading
 reads_more : (n : ℕ) (files : List (List ℕ)) (bytes : List ℕ) → reads_from n (files ++ bytes ∷ []) ≡ reads_from n files ++ Read (n + length files) (length bytes) ∷ []
 reads_more n [] bytes = ap (λ (k : ℕ). Read k (length bytes) ∷ []) (let e : n ≡ n + 0 = omega arith in e)
@@ -55,6 +62,7 @@ reads_more n (file ∷ files) bytes =
 pub next_read : (events : List Event) (files : List (List ℕ)) (bytes : List ℕ) (k m : ℕ) → events ≡ reads_from 0 files → k ≡ length files → m ≡ length bytes → events ++ Read k m ∷ [] ≡ reads_from 0 (files ++ bytes ∷ [])
 next_read events files bytes k m told same len =
     ap (λ (es : List Event). es ++ Read k m ∷ []) told ∙ ap (λ (j : ℕ). reads_from 0 files ++ Read j m ∷ []) same ∙ ap (λ (j : ℕ). reads_from 0 files ++ Read (length files) j ∷ []) len
+    ∙ ap (λ (j : ℕ). reads_from 0 files ++ Read j (length bytes) ∷ []) (let e : length files ≡ 0 + length files = omega arith in e)
     ∙ sym (reads_more 0 files bytes)
 
 -- a file whose reading stops

@@ -7,7 +7,7 @@ use Rattle.ns_base.specs.declared.answers.Event.{Event}
 use Rattle.ns_base.specs.declared.answers.Exit.{Exit}
 use Rattle.ns_base.specs.declared.answers.Exit.TheVariants as exits
 use Rattle.watchers.specs.Telling.{IsTold, Seen, ToldAll, is_chosen}
-use Rattle.watchers.specs.declared.telling.Told.{Told}
+use Rattle.nosleep.specs.declared.telling.Told.{Told}
 use Rattle.app_model.specs.Subject.{SubjectParts}
 use Rattle.watchers.specs.Writing.{WroteAll}
 use Rattle.nosleep.specs.Answer.{IsExact, IsFailure, IsStarved, IsUnjudged, IsUntold, Judges}
@@ -42,12 +42,12 @@ module _ {A : Type 0} (f : A → Seen) (exit : Exit) (kinds : List ℕ) (all : L
     (cause : 0 < told.failed → (i : ℕ) × (old : A) × (new : A) × (slice_get before i ≡ Some old) × (slice_get now i ≡ Some new) × (is_chosen kinds (f old).kind ≡ true) × Rose (f old).faults (f new).faults) where
   told_end : HasExit exit told result → IsToldEnd exit kinds all (map f before) (map f now) result
   told_end (HasExit.starved some is) = IsToldEnd.partly is
-  told_end (HasExit.failed none some is) =
+  told_end (HasExit.failed fed some is) =
       let c = cause some in
       IsToldEnd.fault (record { at = c.0; old = f c.1; new = f c.2; old_there = map_at f before c.0 c.1 c.3; new_there = map_at f now c.0 c.2 c.4; chosen = c.5; rose = c.6 })
-      (seen_each f (λ old new. is_chosen kinds old.kind ≡ true → ¬ Rose old.faults new.faults → ToldAll all old new) before now (faultless none)) is
-  told_end (HasExit.none none no is) =
-      IsToldEnd.whole (seen_each f (λ old new. is_chosen kinds old.kind ≡ true → ToldAll all old new) before now (whole no none)) is
+      (seen_each f (λ old new. is_chosen kinds old.kind ≡ true → ¬ Rose old.faults new.faults → ToldAll all old new) before now (faultless fed)) is
+  told_end (HasExit.none fed well is) =
+      IsToldEnd.whole (seen_each f (λ old new. is_chosen kinds old.kind ≡ true → ToldAll all old new) before now (whole well fed)) is
 
   pub watchers_told : length now ≡ length before → ((i : ℕ) (old new : A) → slice_get before i ≡ Some old → slice_get now i ≡ Some new → IsTold kinds all (f old) (f new))
       → HasExit exit told result → AreWatchersTold exit kinds all (map f before) (map f now) result
@@ -55,8 +55,8 @@ module _ {A : Type 0} (f : A → Seen) (exit : Exit) (kinds : List ℕ) (all : L
 
 pub exit_cause : {Cause : Type 0} (exit : Exit) (told : Told) (result : Exit) → (0 < told.failed → Cause) → HasExit exit told result → IsExitBy Cause exit result
 exit_cause exit told result cause (HasExit.starved some is) = IsExitBy.partly is
-exit_cause exit told result cause (HasExit.failed none some is) = IsExitBy.fault is (cause some)
-exit_cause exit told result cause (HasExit.none none no is) = IsExitBy.as_is is
+exit_cause exit told result cause (HasExit.failed fed some is) = IsExitBy.fault is (cause some)
+exit_cause exit told result cause (HasExit.none fed well is) = IsExitBy.as_is is
 
 -- nobody was told anything
 same_seen : (x y : Seen) (o : Option Seen) → o ≡ Some x → o ≡ Some y → x ≡ y
@@ -86,9 +86,9 @@ module _ {Cause : Type 0} (exit result : Exit) where
   own_exit other one two (IsExitBy.fault is cause) e = absurd (two (sym e ∙ is))
 
   pub fault_cause : (exit ≡ exits.WatcherFault → ⊥) → IsExitBy Cause exit result → result ≡ exits.WatcherFault → Cause
-  fault_cause no (IsExitBy.as_is is) e = absurd (no (sym is ∙ e))
-  fault_cause no (IsExitBy.partly is) e = absurd (let n : exits.WatcherFault ≡ exits.Partly = sym e ∙ is in cc)
-  fault_cause no (IsExitBy.fault is cause) e = cause
+  fault_cause never (IsExitBy.as_is is) e = absurd (never (sym is ∙ e))
+  fault_cause never (IsExitBy.partly is) e = absurd (let n : exits.WatcherFault ≡ exits.Partly = sym e ∙ is in cc)
+  fault_cause never (IsExitBy.fault is cause) e = cause
 
   pub judged_end : (form : Form) → (Cause → ⊥) → IsExitBy Cause exit result → Judges form exit ⊎ (exit ≡ exits.Memory) → Judges form result ⊎ IsStarved result
   judged_end form calm (IsExitBy.as_is is) (inl judges) = inl (subst (λ (k : Exit). Judges form k) (sym is) judges)

@@ -2,7 +2,7 @@
 use Rattle.std.specs.Prelude.{◌≡◌, ◌<◌, ◌⊎◌}
 use Rattle.ns_base.specs.declared.answers.Exit.{Exit}
 use Rattle.ns_base.specs.declared.answers.Exit.TheVariants as exits
-use Rattle.watchers.specs.declared.telling.Told.{Told}
+use Rattle.nosleep.specs.declared.telling.Told.{Told}
 
 -- want of memory comes before a fault
 pub data HasExit (exit : Exit) (told : Told) (result : Exit) : Type 0 where

@@ -14,6 +14,7 @@ ghost use Rattle.nosleep.specs.Words.{Check, Receiver, Verify, dex_names, files_
 
 use crate::certifying::certify;
 use crate::checking::check_bytes;
+use crate::events::push_last;
 use crate::files::{Taken, names_of, take_files};
 use crate::finding::{Found, find_by_list, find_listed};
 use crate::judging::{Judged, judge, with_none};
@@ -21,7 +22,7 @@ use crate::refusing::{Answer, found_text, over};
 use crate::words::{Asked, Options, ordered_by};
 use app_model::Kind;
 use component_list::{Listed, ListedRow};
-use ns_base::{Counted, Event, Exit, Shelf, limit, number};
+use ns_base::{Counted, Event, Exit, Shelf, limit};
 use report_text::{cannot_read, usage_text};
 use std::alloc::{AllocError, Global};
 
@@ -63,24 +64,6 @@ pub fn find_answer<F: Shelf>(
         answer: judged.answer,
         events,
     })
-}
-
-// Adds the events of the violations and of the exit.
-fn push_last(events: &mut Vec<Event>, judged: &Judged) -> Result<(), AllocError>
-    ensures { IfOk result (λ _. events.new.items ≡ ended_by events.old.items judged.now.found.items judged.now.answer.exit) }
-{
-    for violation in &judged.found {
-        events.push(Event::Held {
-            component: violation.component,
-            callback: violation.callback,
-            lock: violation.lock,
-            status: violation.status,
-        })?;
-    }
-    events.push(Event::Ended {
-        exit: number(judged.answer.exit),
-    })?;
-    Ok(())
 }
 
 // Reads the files of a form, each an event, and judges them.

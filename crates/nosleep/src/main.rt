@@ -7,11 +7,13 @@ mod answer;
 mod certifying;
 mod checking;
 mod contents;
+mod events;
 mod files;
 mod finding;
 mod judging;
 mod reading;
 mod refusing;
+mod telling;
 #[cfg(test)]
 mod tests;
 mod top;

@@ -17,6 +17,7 @@ mod layout;
 mod lists;
 mod rows;
 mod sample;
+mod telling;
 
 const WORDS: [&str; 3] = ["receiver", "a", "Lapp/R;"];
 

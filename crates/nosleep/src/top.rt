@@ -12,11 +12,11 @@ ghost use Rattle.app_model.specs.Subject.{SubjectParts};
 ghost use Rattle.nosleep.specs.Judged.{IsSafe};
 
 use crate::answer::find_answer;
+use crate::telling::{Told, tell_all};
 use crate::words::kinds_by;
 use crate::writing::write_all;
 use ns_base::{Event, Exit, Failed, Shelf, Sink, Watcher};
 use std::alloc::{AllocError, Global};
-use watchers::{Told, tell_all};
 
 /// All that the program does: reads the words and files, writes the answer, and says how it ends.
 /// The words do not hold the program's own name. `docs/command.md` has the answers and their order.

@@ -1,5 +1,5 @@
 use Rattle.std.proofs.Common.{◌≡◌, ◌++◌, take, ◌≤◌}
-use Rattle.watchers.proofs.telling.tell_one.Given as goal
+use Rattle.nosleep.proofs.telling.tell_one.Given as goal
 
 abbrev pub invariant-loop-event : goal.invariant-loop-event
 invariant-loop-event g l =

@@ -1,7 +1,7 @@
 use Rattle.std.proofs.Common.{◌≤◌, ◌+◌, arith}
 use Rattle.std.proofs.lemmas.Option.{slice_get_read, slice_get_within}
 use Rattle.watchers.proofs.Numbers.{Progress-step, Progress-le, Progress-whole, Progress-faultless, Progress-cause}
-use Rattle.watchers.proofs.telling.tell_all.Goals as goal
+use Rattle.nosleep.proofs.telling.tell_all.Goals as goal
 
 pub loop-i-preserved : goal.loop-i-preserved
 loop-i-preserved g c =

@@ -1,6 +1,6 @@
 use Rattle.watchers.specs.Telling.{seen}
 use Rattle.watchers.proofs.Numbers.{Progress}
-use Rattle.watchers.proofs.telling.tell_all.Given as goal
+use Rattle.nosleep.proofs.telling.tell_all.Given as goal
 
 abbrev pub invariant-loop-i : goal.invariant-loop-i
 invariant-loop-i g l =
