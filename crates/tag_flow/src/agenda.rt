@@ -1,13 +1,10 @@
 //! Places that are worth a look. Nothing is promised of them.
-ghost use Rattle.std.specs.Prelude.{◌<◌, length};
-ghost use Rattle.app_model.specs.Words.{code_len};
-
 use crate::known::Known;
 use act_model::join;
 use app_model::Tag;
 use ns_base::MethodNo;
 use std::alloc::{AllocError, Global};
-use tag_rows::{Chains, Queue, WORD, number_of};
+use tag_rows::{Chains, Queue, WORD, callees_first, number_of};
 
 /// An instruction of a method.
 #[derive(Clone, Copy)]
@@ -16,7 +13,8 @@ pub(crate) struct Place {
     pub index: u32,
 }
 
-/// Places, numbered so that each method begins a word.
+/// Places, numbered so that each method begins a word, and callees come before their callers: what a call gives is
+/// known before more flows past it.
 #[derive(Drop)]
 pub(crate) struct Agenda {
     queue: Queue,
@@ -32,17 +30,18 @@ pub(crate) struct Agenda {
 impl Agenda {
     pub fn new(alloc: Global, known: &Known) -> Result<Agenda, AllocError> {
         let sets = known.graph.set_count();
-        let methods = known.app.method_count();
+        let methods = known.app.method_count() as usize;
         let mut agenda = Agenda {
             queue: Queue::new(alloc, 0)?,
             owners: Vec::new(alloc),
-            firsts: Vec::new(alloc),
-            sets: Chains::new(alloc, methods as usize)?,
+            firsts: vec![in alloc; 0; methods]?,
+            sets: Chains::new(alloc, methods)?,
             users: Chains::new(alloc, sets)?,
             told: vec![in alloc; Tag::Bot; sets]?,
         };
-        for method in 0..methods {
-            agenda.add_method(known, MethodNo(method))?;
+        let order = callees_first(alloc, known.app, known.graph, known.entries())?;
+        for i in 0..order.len() {
+            agenda.add_method(known, order[i])?;
         }
         for set in 0..sets {
             agenda.add_set(known, set)?;
@@ -51,11 +50,10 @@ impl Agenda {
         Ok(agenda)
     }
 
-    fn add_method(&mut self, known: &Known, method: MethodNo) -> Result<(), AllocError>
-        requires { method.0 < length known.now.app.methods }
-    {
-        self.firsts.push(number_of(self.owners.len()))?;
-        if known.is_reached(method) {
+    fn add_method(&mut self, known: &Known, method: MethodNo) -> Result<(), AllocError> {
+        let place = method.0 as usize;
+        if method.0 < known.app.method_count() && place < self.firsts.len() {
+            self.firsts[place] = number_of(self.owners.len());
             for index in 0..known.app.code_len(method) {
                 self.add_place(known, Place { method, index })?;
             }

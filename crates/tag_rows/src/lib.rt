@@ -5,7 +5,7 @@
 //! - `change` is what flows from an instruction of its row.
 //! - `starts` has the rows at a method's start.
 //! - `sites` numbers the calls that make a lock.
-//! - `queue` and `chains` have numbers of places that are worth a look.
+//! - `queue` and `chains` have numbers of places that are worth a look, `walk` the methods, callees before callers.
 #![tactic(auto)]
 
 mod chains;
@@ -15,6 +15,7 @@ mod rows;
 mod runs;
 mod sites;
 mod starts;
+mod walk;
 
 pub use chains::{Chains, number_of};
 pub use change::{Change, Kept, change_tag, kept_by};
@@ -23,3 +24,4 @@ pub use rows::{RowAt, Rows};
 pub use runs::{Pair, Run};
 pub use sites::{Site, find_sites, is_make, makes_lock, site_of};
 pub use starts::{callback_tag, called_tag, entering};
+pub use walk::callees_first;
