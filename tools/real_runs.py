@@ -10,6 +10,7 @@ and that memory is found where there is memory.
 import hashlib
 import os
 import pathlib
+import re
 import shutil
 import subprocess
 import sys
@@ -33,6 +34,19 @@ HELP = b"""usage: nosleep receiver [--json] [--count] DEX CLASS
 """
 LEAK = b"""report 1 of 2: Lapp/R;->wl is C1 after Lapp/R;->onReceive
 report 2 of 2: Lapp/R;->wl is L after Lapp/R;->onReceive
+"""
+# The same with their paths: into the callback, where the lock is made, acquired and held at the return; and once more, where the
+# next broadcast stores another lock over it.
+LEAK_PATHS = b"""report 1 of 2: Lapp/R;->wl is C1 after Lapp/R;->onReceive
+body 0 0 A ret C1 0/A 2/A 5/A 6/A 8/A 9/A 11/A 14/A 15/A 17/C0 19/C0 22/C1
+view 0 0 0 A start
+exit 0 0 C1 0 0 0
+report 2 of 2: Lapp/R;->wl is L after Lapp/R;->onReceive
+body 0 0 A ret C1 0/A 2/A 5/A 6/A 8/A 9/A 11/A 14/A 15/A 17/C0 19/C0 22/C1
+body 1 0 C1 ret L 0/C1 2/C1 5/C1 6/C1 8/C1 9/C1 11/C1 14/C1 15/C1 17/L 19/L 22/L
+view 0 0 0 A start
+view 1 0 0 C1 own 0 0 0
+exit 0 0 L 1 1 0
 """
 R = "Lapp/R;"
 LIST = b'[[component]]\nkind = "receiver"\nclass = "Lapp/R;"\n'
@@ -86,7 +100,7 @@ RUNS = [
     ("a certificate that is too long", ["check", "more.cert", "list.toml", "works.dex"], None, 8, b"limit CertBytes\n"),
     ("an absent certificate", ["check", "absent.cert", "list.toml", "works.dex"], None, 5, b"cannot read absent.cert\n"),
     ("a certificate and a list", ["check", "works.cert", "list.toml"], None, 4, HELP),
-    ("a list of a leaking receiver", ["verify", "list.toml", "leaks.dex"], None, 1, LEAK),
+    ("a list of a leaking receiver", ["verify", "list.toml", "leaks.dex"], None, 1, LEAK_PATHS),
     ("a list and no file", ["verify", "list.toml"], None, 4, HELP),
     ("an empty list", ["verify", "/dev/null", "works.dex"], None, 2, b"refused N8 Lapp/R;->onReceive 0 11\n"),
     ("as many targets of calls as there may be", ["verify", "/dev/null", "targets.dex"], None, 0, Certificate(b"end\n", "/dev/null", "targets.dex")),
@@ -101,6 +115,10 @@ RUNS = [
     ("a second file that is absent", ["verify", "list.toml", "works.dex", "absent.dex"], None, 5, b"cannot read absent.dex\n"),
     ("seventeen files, of which none is read", ["verify", "list.toml", *["absent.dex"] * 17], None, 8, b"limit Files\n"),
 ]
+
+
+# A report behind its head: bodies, then views, then its exit.
+PATH = re.compile(rb"(body [^\n]+\n)*(view [^\n]+\n)+exit [^\n]+\n")
 
 
 def reports(callback, *statuses, lock="Lapp/R;->wl"):
@@ -158,6 +176,8 @@ def is_use_wrong(program, folder, shows, file, rows, status, text):
     (folder / "use.toml").write_text("".join(map(component, rows)))
     words = ["use.toml", f"{file}.dex"]
     ran = run(program, ["verify", *words], folder)
+    if status == 1:
+        return are_reports_wrong(shows, ran, text)
     if status != 0:
         return differs(shows, ran, status, text)
     head = Certificate(b"", *words).text(folder)
@@ -168,6 +188,44 @@ def is_use_wrong(program, folder, shows, file, rows, status, text):
         return True
     (folder / "use.cert").write_bytes(ran.stdout)
     return differs(shows, ran, 0, ran.stdout) or differs(f"{shows}, checked", run(program, ["check", "use.cert", *words], folder), 0, b"valid\n")
+
+
+def are_reports_wrong(shows, ran, heads):
+    """Whether other reports were written, by their heads, or one without a path."""
+    lines = ran.stdout.splitlines(True)
+    found = b"".join(line for line in lines if line.startswith(b"report "))
+    behind = re.split(rb"report [^\n]+\n", ran.stdout)[1:]
+    if (ran.returncode, found, ran.stderr) == (1, heads, b"") and all(map(PATH.fullmatch, behind)):
+        return False
+    print(f"{shows}: status {ran.returncode}; it wrote {ran.stdout[:400]!r} in place of {heads!r} with a path each, and {ran.stderr[:200]!r} as errors")
+    return True
+
+
+def is_telling_wrong(program, folder):
+    """Whether other events are told, or a watcher that cannot write is not answered."""
+    words = ["verify", "--json", "--count", "list.toml", "leaks.dex"]
+    size = (folder / "leaks.dex").stat().st_size
+    told = f"""{{"bytes":{len(LIST)},"event":"read","file":0}}
+{{"bytes":{size},"event":"read","file":1}}
+{{"callback":0,"component":0,"event":"held","lock":0,"status":2}}
+{{"callback":0,"component":0,"event":"held","lock":0,"status":7}}
+{{"event":"ended","exit":1}}
+reads 2 helds 2 exit 1
+""".encode()
+    wrong = differs("both options", run(program, words, folder), 1, LEAK_PATHS, told)
+    counted = b"reads 3 helds 0 exit 10\n"
+    wrong |= differs("a count of a broken certificate", run(program, ["check", "--count", "broken.cert", "list.toml", "works.dex"], folder), 10,
+                     b"broken I1 0 0 0 27\n", counted)
+    wrong |= differs("an option that is none", run(program, ["verify", "--x", "list.toml", "works.dex"], folder), 4, HELP)
+    wrong |= differs("an option twice", run(program, ["verify", "--json", "--json", "list.toml", "works.dex"], folder), 4, HELP)
+    if not os.path.exists("/dev/full"):
+        print("no /dev/full here: standard error on a full disk is left out")
+        return wrong
+    with open("/dev/full", "wb") as full:
+        for option in ("--json", "--count"):
+            ran = run(program, ["verify", option, "list.toml", "leaks.dex"], folder, errors=full)
+            wrong |= differs(f"{option} on a full disk", ran, 7, LEAK_PATHS, None)
+    return wrong
 
 
 def lay_out(folder):
@@ -199,16 +257,16 @@ def lay_out(folder):
     subprocess.run([sys.executable, TOP / "bench/generate_dex.py", folder / "large.dex"], check=True)
 
 
-def run(program, words, folder, given=b"", out=subprocess.PIPE):
-    return subprocess.run([program, *words], input=given, stdout=out, stderr=subprocess.PIPE, cwd=folder, timeout=SECONDS)
+def run(program, words, folder, given=b"", out=subprocess.PIPE, errors=subprocess.PIPE):
+    return subprocess.run([program, *words], input=given, stdout=out, stderr=errors, cwd=folder, timeout=SECONDS)
 
 
-def differs(shows, ran, status, text):
-    """Whether a run ended otherwise, or wrote something else; it is then said."""
-    if (ran.returncode, ran.stdout, ran.stderr) == (status, text, b""):
+def differs(shows, ran, status, text, told=b""):
+    """Whether a run ended otherwise, or wrote or told something else; it is then said."""
+    if (ran.returncode, ran.stdout, ran.stderr) == (status, text, told):
         return False
     print(f"{shows}: status {ran.returncode} in place of {status}; it wrote {(ran.stdout or b'')[:200]!r}"
-          f" in place of {(text or b'')[:200]!r}, and {ran.stderr[:200]!r} as errors")
+          f" in place of {(text or b'')[:200]!r}, and {(ran.stderr or b'')[:400]!r} as errors in place of {(told or b'')[:400]!r}")
     return True
 
 
@@ -233,7 +291,7 @@ def main():
     with tempfile.TemporaryDirectory() as room:
         folder = pathlib.Path(room)
         lay_out(folder)
-        wrong = is_untaken_wrong(program, folder)
+        wrong = is_untaken_wrong(program, folder) | is_telling_wrong(program, folder)
         for shows, words, given, status, text in RUNS:
             fed = (folder / given).read_bytes() if given else b""
             text = text.text(folder) if isinstance(text, Certificate) else text

@@ -555,7 +555,9 @@ class Completion(Case):
         (self.folder / "more").mkdir()
         self.written("a.txt", "")
         for words, expected in (
-                (['""'], ["receiver", "verify"]), (["v"], ["verify"]), (["verify", '""'], ["list.toml", "more"]),
+                (['""'], ["check", "receiver", "verify"]), (["v"], ["verify"]), (["verify", '""'], ["list.toml", "more"]),
+                (["verify", "--"], ["--count", "--json"]), (["verify", "--json", '""'], ["list.toml", "more"]),
+                (["check", "--count", "a.txt", '""'], ["list.toml", "more"]), (["check", "a.txt", "list.toml", "le"], ["leaky.dex"]),
                 (["verify", "list.toml", '""'], ["leaky.dex", "more"]), (["verify", "list.toml", "leaky.dex", "le"], ["leaky.dex"]),
                 (["receiver", '""'], ["leaky.dex", "more"]), (["receiver", "leaky.dex", '""'], []), (["other", '""'], [])):
             with self.subTest(" ".join(words)):

@@ -11,6 +11,8 @@ use std::test::Fail;
 
 mod calls;
 mod hierarchy;
+mod logs;
+mod reports;
 mod rows;
 mod samples;
 mod scope;
