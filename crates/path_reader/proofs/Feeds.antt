@@ -1,14 +1,14 @@
 -- The lines of a report, as joined fields with a line feed.
-use Rattle.std.proofs.Common.{◌≡◌, ℕ, zero, suc, ◌+◌, ◌<◌, ◌≤◌, Bool, true, false, List, [], ◌∷◌, ◌++◌, length, map, take, get_or, Option, Some, None, refl, sym, ap, subst, ◌∙◌, append_assoc, arith}
+use Rattle.std.proofs.Common.{◌≡◌, ℕ, zero, suc, ◌<◌, ◌≤◌, Bool, true, false, List, [], ◌∷◌, ◌++◌, length, map, take, get_or, Option, Some, None, refl, sym, ap, ◌∙◌, append_assoc, arith}
 use Rattle.std.specs.Prelude.{codes, decimal, slice_get}
-use Rattle.std.specs.List.{AllByRecursion, flat_map, join_with_byte}
+use Rattle.std.specs.List.{flat_map, join_with_byte}
 use Rattle.std.proofs.Math.ListN.{get_or-append}
 use Rattle.std.proofs.Math.Seq.{get_or-append_seam, take-suc}
 use Rattle.std.proofs.lemmas.List.{length-append}
 use Rattle.std.proofs.lemmas.Option.{slice_get-get_or}
 use Rattle.cert_line.specs.Fields.{status_name}
-use Rattle.path_text.specs.Lines.{body_field, end_field, field, line_at, lines_below, status_field, step_text, view_line, way}
-use Rattle.path_reader.specs.Parts.{BodyNo, BodyParts, ReportParts, State}
+use Rattle.path_text.specs.Lines.{field, line_at, lines_below, status_field, step_text, view_line, way}
+use Rattle.path_reader.specs.Parts.{BodyNo, BodyParts, State}
 use Rattle.path_reader.specs.Reading.{ended}
 use Rattle.path_reader.specs.Texts.{body_text, exit_text, head_text}
 use Rattle.path_reader.specs.declared.lines.Head.{Head}

@@ -1,5 +1,5 @@
 -- What is read from a field is spelled so, and what is spelled so is read.
-use Rattle.std.proofs.Common.{◌≡◌, ℕ, zero, suc, ◌+◌, ◌-◌, ◌^◌, ◌<◌, ◌≤◌, Bool, true, false, cond, ltb, eqb, ◌&&◌, List, [], ◌∷◌, ◌++◌, length, map, Option, Some, None, refl, sym, ap, subst, ◌∙◌, append_assoc, arith, lit<, lit≤, inl, inr}
+use Rattle.std.proofs.Common.{◌≡◌, ℕ, zero, suc, ◌^◌, ◌<◌, ◌≤◌, Bool, true, false, cond, ltb, eqb, List, [], ◌∷◌, ◌++◌, length, map, Option, Some, None, refl, sym, ap, subst, ◌∙◌, append_assoc, arith, lit≤, inl, inr}
 use Rattle.std.specs.Prelude.{codes, decimal, bytes_eq, option_map, slice_index_or, ◌==◌}
 use Rattle.std.specs.List.{AllByRecursion, flat_map, join_with_byte, list_all}
 use Rattle.std.specs.Str.{all_ascii_digits}
@@ -13,12 +13,12 @@ use Rattle.std.proofs.lemmas.List.Splits.{slice_split_at, slice_split_none, join
 use Rattle.std.proofs.lemmas.Option.{cond_some}
 use Rattle.std.proofs.lemmas.Slice.Eq.{bytes_eq-Decides}
 use Rattle.cert_line.specs.Fields.{status_name, status_names}
-use Rattle.cert_line.specs.Reading.{◌>>=◌, pieces, status_in, two}
+use Rattle.cert_line.specs.Reading.{◌>>=◌, pieces, status_in}
 use Rattle.cert_line.proofs.Choices.{bind_some, chosen}
 use Rattle.cert_line.proofs.Numbers.{below_takes, below_again, own}
 use Rattle.cert_line.proofs.Statuses.{status_takes, status_again}
 use Rattle.cert_line.proofs.Spaces.{Above, Above-append, free}
-use Rattle.path_text.specs.Lines.{body_field, cited, end_field, field, status_field, step_text}
+use Rattle.path_text.specs.Lines.{cited, field, step_text}
 use Rattle.path_reader.specs.Reading.{cites_in, colon_in, dash_in, end_in, row_in, step_in, step_of, steps_in}
 use Rattle.path_reader.specs.Texts.{FitsMaybe, FitsRow, FitsStep}
 use Rattle.report_path.specs.declared.report.Step.{Step}

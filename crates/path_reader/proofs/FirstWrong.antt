@@ -1,7 +1,7 @@
 -- What the reader's answer says: the reports of a text, or the first line with which no text begins.
-use Rattle.std.proofs.Common.{Bool, Err, List, None, Ok, Option, Result, Some, [], ap, append_assoc, arith, cond, eqb, false, inl, inr, length, map, not, refl, rules, subst, sym, true, zero, suc, ℕ, ◌&&◌, ◌++◌, ◌+◌, ◌<◌, ◌≤◌, ◌^◌, ◌∙◌, ◌∷◌, ◌≡◌, ◌⊎◌, lit<, lit≤}
+use Rattle.std.proofs.Common.{Bool, Err, List, None, Ok, Option, Result, Some, [], ap, append_assoc, arith, cond, eqb, false, inl, inr, length, map, refl, subst, sym, true, zero, suc, ℕ, ◌&&◌, ◌++◌, ◌+◌, ◌<◌, ◌≤◌, ◌∙◌, ◌∷◌, ◌≡◌, lit<}
 use Rattle.std.specs.Prelude.{◌==◌, ◌||◌, IfOk}
-use Rattle.std.specs.List.{AllByRecursion, flat_map, join_with_byte, onto_first}
+use Rattle.std.specs.List.{AllByRecursion, join_with_byte, onto_first}
 use Rattle.std.specs.declared.alloc.Global.{Global}
 use Rattle.std.specs.declared.vec.Vec.{Vec}
 use Rattle.std.proofs.lemmas.List.{append-nil, length-append, length-map, nil_from_length}
@@ -9,11 +9,11 @@ use Rattle.std.proofs.lemmas.Bool.{and_parts, cases_order, eq-eqb, eqb-true}
 use Rattle.std.proofs.lemmas.List.Concat.{flat_map-append}
 use Rattle.std.proofs.lemmas.List.Elements.{All-from_recursion}
 use Rattle.std.proofs.lemmas.List.Splits.{join_with_byte-slice_split, slice_split_at}
-use Rattle.cert_line.specs.Reading.{◌>>=◌, pieces}
+use Rattle.cert_line.specs.Reading.{pieces}
 use Rattle.cert_line.proofs.Choices.{bind_some}
 use Rattle.path_reader.specs.Parts.{BodyParts, ReportParts, State}
 use Rattle.path_reader.specs.Reading.{ended, is_end, or_wrong, read, reading, start, step}
-use Rattle.path_reader.specs.Texts.{FitsRow, IsReportsText, NoFeed, exit_text, head_text, report_parts}
+use Rattle.path_reader.specs.Texts.{FitsRow, IsReportsText, NoFeed, report_parts}
 use Rattle.path_reader.specs.Wrong.{Gives, HasFirstWrong, IsFirstWrong, IsFront, OnLine, feed}
 use Rattle.path_reader.specs.declared.lines.Last.{Last}
 use Rattle.path_reader.specs.declared.reading.ReadBack.{ReadBack}

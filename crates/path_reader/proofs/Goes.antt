@@ -1,31 +1,29 @@
 -- The text of reports is read as these reports.
-use Rattle.std.proofs.Common.{◌≡◌, ℕ, zero, suc, ◌+◌, ◌^◌, ◌<◌, ◌≤◌, Bool, true, false, cond, eqb, ltb, ◌&&◌, ◌||◌, not, List, [], ◌∷◌, ◌++◌, length, map, take, Option, Some, None, refl, sym, ap, subst, ◌∙◌, append_assoc, arith, lit<, lit≤}
-use Rattle.std.specs.Prelude.{codes, decimal, nat_le, ◌==◌, slice_get}
-use Rattle.std.specs.List.{AllByRecursion, join_with_byte, slice_split}
+use Rattle.std.proofs.Common.{◌≡◌, ℕ, zero, suc, ◌+◌, ◌^◌, ◌<◌, ◌≤◌, true, false, ◌||◌, List, [], ◌∷◌, ◌++◌, length, map, take, Option, Some, refl, sym, ap, subst, ◌∙◌, arith, lit≤}
+use Rattle.std.specs.Prelude.{codes, nat_le, ◌==◌, slice_get}
+use Rattle.std.specs.List.{AllByRecursion, join_with_byte}
 use Rattle.std.proofs.Math.Seq.{take-length}
-use Rattle.std.proofs.lemmas.Bool.{and_from, eq-eqb}
+use Rattle.std.proofs.lemmas.Bool.{eq-eqb}
 use Rattle.std.proofs.lemmas.Bool.Decides.{nat_tests}
 use Rattle.std.proofs.lemmas.List.{append-nil, length-map, length-take-le}
 use Rattle.std.proofs.lemmas.List.Concat.{flat_map-append}
 use Rattle.std.proofs.lemmas.List.Elements.{All-from_recursion, recursion_from_All}
-use Rattle.std.proofs.lemmas.List.Splits.{join_with_byte-slice_split, slice_split_at}
 use Rattle.std.proofs.lemmas.Option.{get_or_from_slice_get, slice_get_within}
-use Rattle.cert_line.specs.Reading.{◌>>=◌, pieces}
 use Rattle.cert_line.proofs.Choices.{bind_some}
-use Rattle.cert_line.proofs.Spaces.{Above, Above-append, free}
+use Rattle.cert_line.proofs.Spaces.{Above, free}
 use Rattle.path_text.specs.Lines.{line_at as text_at, lines_below, view_line}
 use Rattle.path_reader.specs.Parts.{BodyNo, BodyParts, ReportParts, State}
-use Rattle.path_reader.specs.Reading.{ended, follow, is_end, line_at, may_begin, may_have_body, may_have_view, start, step}
-use Rattle.path_reader.specs.Texts.{AreTexts, FitsBody, FitsRow, FitsView, IsReportsText, IsRead, IsTold, NoFeed, Told, body_text, exit_text, head_text, report_text, told_text}
+use Rattle.path_reader.specs.Reading.{ended, follow, is_end, line_at, may_begin, start, step}
+use Rattle.path_reader.specs.Texts.{FitsBody, FitsRow, FitsView, IsReportsText, IsTold, NoFeed, Told, body_text, exit_text, head_text, report_text, told_text}
 use Rattle.path_reader.specs.Wrong.{feed}
 use Rattle.path_reader.specs.declared.lines.Head.{Head}
 use Rattle.path_reader.specs.declared.lines.Last.{Last}
 use Rattle.path_reader.specs.declared.lines.Line.{Line}
 use Rattle.path_reader.specs.declared.lines.Line.TheVariants as lines
 use Rattle.path_reader.specs.declared.lines.NumberedView.{NumberedView}
-use Rattle.path_reader.proofs.Feeds.{body_feed, exit_feed, head_feed, snoc_at, view_feed}
-use Rattle.path_reader.proofs.Keeps.{done_text, run}
-use Rattle.path_reader.proofs.LineForms.{FitsLast, FitsLine, body_fields, body_line_above, body_line_again, head_line_again, last_fields, last_line_above, last_line_again, view_fields, view_line_above, view_line_again}
+use Rattle.path_reader.proofs.Feeds.{body_feed, exit_feed, snoc_at, view_feed}
+use Rattle.path_reader.proofs.Keeps.{run}
+use Rattle.path_reader.proofs.LineForms.{FitsLast, body_fields, body_line_above, body_line_again, head_line_again, last_fields, last_line_above, last_line_again, view_fields, view_line_above, view_line_again}
 use Rattle.report_path.specs.declared.report.ViewStep.{ViewStep}
 
 -- the lines of some bytes lead from a state to another

@@ -1,17 +1,17 @@
 -- What is read so far is spelled so: the front of a text of reports.
-use Rattle.std.proofs.Common.{◌≡◌, ℕ, suc, ◌+◌, ◌^◌, ◌<◌, ◌≤◌, Bool, true, false, cond, eqb, ltb, ◌&&◌, ◌||◌, ◌⊎◌, not, List, [], ◌∷◌, ◌++◌, length, map, Option, Some, None, refl, sym, ap, subst, ◌∙◌, append_assoc, arith, lit<, lit≤, inl, inr}
+use Rattle.std.proofs.Common.{◌≡◌, ℕ, ◌+◌, ◌^◌, ◌<◌, ◌≤◌, Bool, true, false, ◌&&◌, ◌||◌, ◌⊎◌, not, List, [], ◌∷◌, ◌++◌, length, map, Option, Some, refl, sym, ap, subst, ◌∙◌, append_assoc, arith, lit<, lit≤, inl, inr}
 use Rattle.std.specs.Prelude.{codes, decimal, nat_le, ◌==◌}
-use Rattle.std.specs.List.{AllByRecursion, flat_map, join_with_byte}
-use Rattle.std.proofs.lemmas.Bool.{and_parts, eqb-true, or_cases, not-true}
+use Rattle.std.specs.List.{AllByRecursion, join_with_byte}
+use Rattle.std.proofs.lemmas.Bool.{and_parts, eqb-true, or_cases}
 use Rattle.std.proofs.lemmas.Bool.Decides.{nat_tests}
 use Rattle.std.proofs.lemmas.List.{append-nil, length-append, length-map, nil_from_length}
 use Rattle.std.proofs.lemmas.Option.{cond_some}
 use Rattle.cert_line.specs.Reading.{◌>>=◌}
 use Rattle.cert_line.proofs.Choices.{bind_some}
 use Rattle.path_text.specs.Lines.{lines_below, view_line}
-use Rattle.path_reader.specs.Parts.{BodyNo, BodyParts, ReportParts, State}
+use Rattle.path_reader.specs.Parts.{BodyNo, ReportParts, State}
 use Rattle.path_reader.specs.Reading.{ended, follow, is_end, line_at, may_begin, may_have_body, may_have_view, start, step}
-use Rattle.path_reader.specs.Texts.{AreTexts, FitsBody, FitsRow, FitsView, IsReportsText, IsRead, IsTold, NoFeed, Told, body_text, exit_text, head_text, report_text, told_text}
+use Rattle.path_reader.specs.Texts.{FitsBody, FitsRow, FitsView, IsReportsText, IsRead, IsTold, NoFeed, Told, body_text, exit_text, head_text, report_text, told_text}
 use Rattle.path_reader.specs.Wrong.{feed}
 use Rattle.path_reader.specs.declared.lines.Head.{Head}
 use Rattle.path_reader.specs.declared.lines.Last.{Last}
@@ -19,8 +19,7 @@ use Rattle.path_reader.specs.declared.lines.Line.{Line}
 use Rattle.path_reader.specs.declared.lines.Line.TheVariants as lines
 use Rattle.path_reader.specs.declared.lines.NumberedView.{NumberedView}
 use Rattle.path_reader.proofs.Feeds.{body_feed, exit_feed, head_feed, lines_snoc, view_feed}
-use Rattle.path_reader.proofs.LineForms.{FitsLast, FitsLine, IsSpelled, body_fields, fields_of, head_fields, last_fields, line_at_takes, view_fields}
-use Rattle.report_path.specs.declared.report.ViewStep.{ViewStep}
+use Rattle.path_reader.proofs.LineForms.{FitsLast, FitsLine, fields_of, head_fields, line_at_takes}
 
 -- the texts of the reports that are done
 abbrev pub done_text : ℕ → List Told → List ℕ

@@ -1,32 +1,30 @@
 -- What is read from a line is spelled so, and what is spelled so is read.
-use Rattle.std.proofs.Common.{◌≡◌, ℕ, ◌+◌, ◌^◌, ◌<◌, ◌≤◌, Bool, true, false, cond, ltb, eqb, ◌⊎◌, List, [], ◌∷◌, ◌++◌, length, map, Option, Some, None, refl, sym, ap, subst, ◌∙◌, append_assoc, arith, lit<, lit≤, inl, inr}
+use Rattle.std.proofs.Common.{◌≡◌, ℕ, ◌<◌, ◌≤◌, false, cond, ◌⊎◌, List, [], ◌∷◌, ◌++◌, length, map, Option, Some, None, refl, sym, ap, subst, ◌∙◌, append_assoc, arith, lit≤, inl, inr}
 use Rattle.std.specs.Prelude.{codes, decimal, bytes_eq, option_map, ◌==◌}
-use Rattle.std.specs.List.{AllByRecursion, flat_map, join_with_byte}
-use Rattle.std.proofs.lemmas.Option.{cond_some, some_pair_parts}
+use Rattle.std.specs.List.{AllByRecursion, join_with_byte}
+use Rattle.std.proofs.lemmas.Option.{some_pair_parts}
 use Rattle.std.proofs.lemmas.List.Splits.{slice_split_at, join_with_byte-slice_split, length-slice_split}
 use Rattle.std.proofs.lemmas.List.Elements.{recursion_from_All}
 use Rattle.std.proofs.lemmas.Slice.Eq.{bytes_eq-Decides}
 use Rattle.cert_line.specs.Fields.{status_name}
-use Rattle.cert_line.specs.Reading.{◌>>=◌, below_in, pieces, status_in, three, two}
+use Rattle.cert_line.specs.Reading.{◌>>=◌, below_in, pieces, status_in}
 use Rattle.cert_line.proofs.Choices.{bind_some, chosen}
 use Rattle.cert_line.proofs.Numbers.{below_takes, below_again}
 use Rattle.cert_line.proofs.Statuses.{status_takes, status_again}
 use Rattle.cert_line.proofs.Spaces.{Above, Above-append, free, split_join}
-use Rattle.path_text.specs.Lines.{body_field, end_field, field, status_field, step_text, view_line, way}
-use Rattle.path_reader.specs.Parts.{BodyNo, BodyParts, ReportParts}
-use Rattle.path_reader.specs.Reading.{body_in, body_of, colon_in, dash_in, end_in, four, front_in, front_of, head_in, head_of, last_in, last_of, line_at, line_in, other_in, outside_in, own_in, row_in, start_in, steps_in, view_in, view_of, way_in}
-use Rattle.path_reader.specs.Texts.{FitsBody, FitsBy, FitsMaybe, FitsRow, FitsStep, FitsView, NoFeed, body_text, head_text}
+use Rattle.path_reader.specs.Parts.{BodyNo}
+use Rattle.path_reader.specs.Reading.{body_in, body_of, colon_in, dash_in, end_in, front_in, front_of, head_in, head_of, last_in, last_of, line_at, line_in, other_in, outside_in, own_in, row_in, start_in, steps_in, view_in, view_of, way_in}
+use Rattle.path_reader.specs.Texts.{FitsBody, FitsBy, FitsMaybe, FitsRow, FitsStep, FitsView, NoFeed, head_text}
 use Rattle.path_reader.specs.declared.lines.Front.{Front}
 use Rattle.path_reader.specs.declared.lines.Head.{Head}
 use Rattle.path_reader.specs.declared.lines.Last.{Last}
 use Rattle.path_reader.specs.declared.lines.NumberedView.{NumberedView}
 use Rattle.path_reader.specs.declared.lines.Line.{Line}
 use Rattle.path_reader.specs.declared.lines.Line.TheVariants as lines
-use Rattle.path_reader.proofs.FieldForms.{colon_again, colon_takes, dash_above, dash_again, dash_field, dash_takes, end_above, end_again, end_name, end_takes, item, items_above, join_items, lower, map_some, row_above, row_again, row_takes, status_above, steps_again, steps_take}
+use Rattle.path_reader.proofs.FieldForms.{colon_again, colon_takes, dash_above, dash_again, dash_field, dash_takes, end_above, end_again, end_name, end_takes, item, items_above, lower, map_some, row_above, row_again, row_takes, status_above, steps_again, steps_take}
 use Rattle.report_path.specs.declared.report.By.{By}
 use Rattle.report_path.specs.declared.report.By.TheVariants.{Start, Outside, Own, Other}
 use Rattle.report_path.specs.declared.report.Step.{Step}
-use Rattle.report_path.specs.declared.report.ViewStep.{ViewStep}
 
 -- ---- the fields of lines
 

@@ -1,12 +1,12 @@
 -- What was written is the text of what is read back.
-use Rattle.std.proofs.Common.{◌≡◌, ℕ, zero, suc, ◌+◌, List, [], ◌∷◌, ◌++◌, length, map, Option, Some, None, refl, sym, ap, subst, ◌∙◌, append_assoc}
-use Rattle.std.specs.Prelude.{codes, option_map, slice_get}
+use Rattle.std.proofs.Common.{◌≡◌, ℕ, zero, suc, ◌+◌, List, [], ◌∷◌, ◌++◌, length, map, Option, Some, None, refl, sym, ap, subst, ◌∙◌}
+use Rattle.std.specs.Prelude.{option_map, slice_get}
 use Rattle.std.specs.List.{AllByRecursion}
 use Rattle.std.proofs.lemmas.List.{length-map}
 use Rattle.std.proofs.lemmas.Option.{slice_get-map}
 use Rattle.path_text.specs.Lines.{body_front, body_line, exit_front, exit_line, line_at, lines_below, path_text, view_line}
-use Rattle.path_reader.specs.Parts.{BodyParts, ReportParts}
-use Rattle.path_reader.specs.Texts.{FitsRow, IsReadBack, IsRead, IsTold, IsWritten, Told, Written, as_read, body_parts, body_text, exit_text, head_text, report_parts, report_text, told_text, written_at}
+use Rattle.path_reader.specs.Parts.{ReportParts}
+use Rattle.path_reader.specs.Texts.{FitsRow, IsReadBack, IsTold, IsWritten, Told, Written, as_read, body_parts, body_text, exit_text, head_text, report_parts, report_text, told_text, written_at}
 use Rattle.report_path.specs.declared.report.BodyPath.{BodyPath}
 use Rattle.report_path.specs.declared.report.Report.{Report}
 

@@ -1,7 +1,7 @@
 -- How the text of reports is read, line by line.
 use Rattle.std.specs.Prelude.{ℕ, ◌+◌, ◌^◌, Bool, true, false, List, [], ◌∷◌, ◌++◌, length, Option, Some, None, option_map, Result, Ok, Err, nat_le, ◌==◌, ◌&&◌, ◌||◌, not, if◌then◌else◌, codes, bytes_eq}
 use Rattle.cert_line.specs.Reading.{◌>>=◌, below_in, pieces, status_in, three, two}
-use Rattle.path_reader.specs.Parts.{BodyNo, BodyParts, ReportParts, State}
+use Rattle.path_reader.specs.Parts.{BodyNo, ReportParts, State}
 use Rattle.path_reader.specs.declared.lines.Front.{Front}
 use Rattle.path_reader.specs.declared.lines.Head.{Head}
 use Rattle.path_reader.specs.declared.lines.Last.{Last}
@@ -11,7 +11,6 @@ use Rattle.path_reader.specs.declared.lines.Line.TheVariants as lines
 use Rattle.report_path.specs.declared.report.By.{By}
 use Rattle.report_path.specs.declared.report.By.TheVariants.{Start, Outside, Own, Other}
 use Rattle.report_path.specs.declared.report.Step.{Step}
-use Rattle.report_path.specs.declared.report.ViewStep.{ViewStep}
 
 -- the pieces of what is left, if anything is
 abbrev pub left_by : ℕ → Option (List ℕ) → List (List ℕ)
