@@ -1,5 +1,5 @@
 -- Subjects that are alike have the same valid reports.
-use Rattle.std.proofs.Common.{◌≡◌, ℕ, ◌+◌, ◌<◌, List, ◌∷◌, length, Option, Some, None, refl, sym, ap, ◌∙◌, subst}
+use Rattle.std.proofs.Common.{◌≡◌, ℕ, ◌+◌, ◌<◌, List, [], ◌∷◌, length, Option, Some, None, refl, sym, ap, ◌∙◌, subst}
 use Rattle.std.specs.Prelude.{slice_get, take}
 use Rattle.app_model.specs.declared.component.Edge.{Edge}
 use Rattle.app_model.specs.Facts.{Fact, At}
@@ -16,7 +16,7 @@ use Rattle.report_path.specs.declared.report.By.TheVariants.{Start, Outside, Own
 use Rattle.report_path.specs.declared.report.Report.{Report}
 use Rattle.report_path.specs.declared.report.Step.{Step}
 use Rattle.report_path.specs.declared.report.ViewStep.{ViewStep}
-use Rattle.report_path.specs.Paths.{Entry, Follows, GoesOn, IsBody, IsNext, IsPath, LeadsTo}
+use Rattle.report_path.specs.Paths.{Begins, Entry, Follows, GoesOn, IsBody, IsNext, IsPath, LeadsTo}
 use Rattle.report_path.specs.Reports.{IsExit, IsLast, IsValidReport}
 use Rattle.report_path.specs.Views.{Case, IsAfter, IsBeside, IsBy, IsOther, IsOwn, Moves, fact_of}
 
@@ -63,8 +63,6 @@ module _ (x y : SubjectParts) (left : IsInScope x) (right : IsInScope (beside x 
       });
     }
       where
-        use Rattle.report_path.specs.Paths.{Begins}
-
         begins_over : (steps : List Step) → Begins one steps → Begins other steps
         begins_over [] b = b
         begins_over (a ∷ steps) b = b
