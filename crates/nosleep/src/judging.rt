@@ -63,11 +63,7 @@ fn tell(alloc: Global, subject: &Subject, violations: &[Violation]) -> Result<An
 }
 
 // The answer to some violations: their heads.
-fn report(
-    alloc: Global,
-    subject: &Subject,
-    violations: &[Violation],
-) -> Result<Answer, AllocError>
+fn report(alloc: Global, subject: &Subject, violations: &[Violation]) -> Result<Answer, AllocError>
     ensures { IfOk result (λ a. IsReport subject.now.app subject.now.list violations.now a.text.items a.exit) }
 {
     let bare = bare_reports(alloc, violations)?;

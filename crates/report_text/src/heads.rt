@@ -24,11 +24,7 @@ pub fn heads_text(
     or_starved(all_heads(alloc, subject, reports))
 }
 
-fn all_heads(
-    alloc: Global,
-    subject: &Subject,
-    reports: &[Report],
-) -> Result<Vec<u8>, AllocError>
+fn all_heads(alloc: Global, subject: &Subject, reports: &[Report]) -> Result<Vec<u8>, AllocError>
     ensures { IfOk result (λ text. text.items ≡ spec.heads_text subject.now.app subject.now.list (map violation_of reports.now)) }
 {
     let mut text = Vec::new(alloc);

@@ -4,8 +4,8 @@ ghost use Rattle.report_text.specs.Refusals.{refused_text};
 
 use crate::numbers::{push_decimal, push_numbers};
 use app_model::push_member;
-use scope_check::ScopeFault;
 use ns_base::OutOfMemory;
+use scope_check::ScopeFault;
 use std::alloc::{AllocError, Global};
 
 fn push_refusal(alloc: Global, text: &mut Vec<u8>, fault: &ScopeFault) -> Result<(), AllocError>

@@ -22,11 +22,7 @@ pub fn reports_text(
     or_starved(all_parts(alloc, subject, reports))
 }
 
-fn all_parts(
-    alloc: Global,
-    subject: &Subject,
-    reports: &[Report],
-) -> Result<Vec<u8>, AllocError>
+fn all_parts(alloc: Global, subject: &Subject, reports: &[Report]) -> Result<Vec<u8>, AllocError>
     ensures { IfOk result (λ text. text.items ≡ spec.reports_text subject.now.app subject.now.list reports.now) }
 {
     let mut text = Vec::new(alloc);

@@ -148,9 +148,11 @@ fn is_written(alloc: Global, digits: &[&str], list: &str, expected: &str) -> Res
     let subject = subject_by(alloc, digits, list)?;
     let reports = reports_of(alloc, &subject)?;
     let text = text_of(alloc, &subject, &reports)?;
-    Ok(text.as_slice() == expected.as_bytes()
-        && reports.iter().all(|report| is_valid(&subject, report))
-        && is_read_back(alloc, &text, &reports)?)
+    Ok(
+        text.as_slice() == expected.as_bytes()
+            && reports.iter().all(|report| is_valid(&subject, report))
+            && is_read_back(alloc, &text, &reports)?,
+    )
 }
 
 // Whether the reports of a file have these heads, each is valid and no longer than so many steps, and all are read back.
@@ -161,11 +163,12 @@ fn is_reported(alloc: Global, row: &Row) -> Result<bool, Fail> {
         return Err("there is memory".into());
     };
     let text = text_of(alloc, &subject, &reports)?;
-    Ok(heads.as_slice() == row.heads.as_bytes()
-        && reports
-            .iter()
-            .all(|report| is_valid(&subject, report) && step_count(report) <= row.most)
-        && is_read_back(alloc, &text, &reports)?)
+    Ok(
+        heads.as_slice() == row.heads.as_bytes()
+            && reports.iter().all(|report| is_valid(&subject, report)
+                && step_count(report) <= row.most)
+            && is_read_back(alloc, &text, &reports)?,
+    )
 }
 
 #[test]
