@@ -18,6 +18,7 @@ mod samples;
 mod scope;
 mod solutions;
 mod tags;
+mod wrong_reports;
 
 // The application of a file, which is given by its digits.
 fn read_app(alloc: Global, digits: &[&str]) -> Result<App, Fail>

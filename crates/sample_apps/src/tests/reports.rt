@@ -12,7 +12,7 @@ use std::alloc::Global;
 use std::test::Fail;
 use view_solver::solve_lock;
 
-const RECEIVER: &str = "[[component]]\nkind = \"receiver\"\nclass = \"Lapp/R;\"\n";
+pub const RECEIVER: &str = "[[component]]\nkind = \"receiver\"\nclass = \"Lapp/R;\"\n";
 
 const SERVICE: &str = "[[component]]\nkind = \"service\"\nclass = \"Lapp/S;\"\n";
 
@@ -78,7 +78,7 @@ static ROWS: [Row; 2] = [
     },
 ];
 
-fn subject_by(alloc: Global, digits: &[&str], list: &str) -> Result<Subject, Fail> {
+pub fn subject_by(alloc: Global, digits: &[&str], list: &str) -> Result<Subject, Fail> {
     let app = read_app(alloc, digits)?;
     match subject_of(alloc, app, list.as_bytes()) {
         Ok(subject) => Ok(subject),
@@ -87,7 +87,7 @@ fn subject_by(alloc: Global, digits: &[&str], list: &str) -> Result<Subject, Fai
 }
 
 // The reports of the first lock field.
-fn reports_of(alloc: Global, subject: &Subject) -> Result<Vec<Report>, Fail> {
+pub fn reports_of(alloc: Global, subject: &Subject) -> Result<Vec<Report>, Fail> {
     subject.told();
     if subject.lock_count() == 0 {
         return Err("a lock".into());
@@ -101,9 +101,25 @@ fn reports_of(alloc: Global, subject: &Subject) -> Result<Vec<Report>, Fail> {
     }
 }
 
-fn is_valid(subject: &Subject, report: &Report) -> bool {
-    let few = 1_000_000;
-    report.bodies.len() <= few && report.views.len() <= few && check_report(subject, report).is_ok()
+/// The number of the first wrong piece of a report: bodies are counted first, then views, then the exit.
+pub fn wrong_piece(subject: &Subject, report: &Report) -> Result<Option<u32>, Fail> {
+    let most = 1_000_000;
+    if report.bodies.len() > most || report.views.len() > most {
+        return Err("a small report".into());
+    }
+    match check_report(subject, report) {
+        Ok(()) => Ok(None),
+        Err(number) => Ok(Some(number)),
+    }
+}
+
+fn are_valid(subject: &Subject, reports: &[Report]) -> Result<bool, Fail> {
+    for report in reports {
+        if wrong_piece(subject, report)?.is_some() {
+            return Ok(false);
+        }
+    }
+    Ok(true)
 }
 
 fn step_count(report: &Report) -> usize {
@@ -150,7 +166,7 @@ fn is_written(alloc: Global, digits: &[&str], list: &str, expected: &str) -> Res
     let text = text_of(alloc, &subject, &reports)?;
     Ok(
         text.as_slice() == expected.as_bytes()
-            && reports.iter().all(|report| is_valid(&subject, report))
+            && are_valid(&subject, &reports)?
             && is_read_back(alloc, &text, &reports)?,
     )
 }
@@ -165,8 +181,8 @@ fn is_reported(alloc: Global, row: &Row) -> Result<bool, Fail> {
     let text = text_of(alloc, &subject, &reports)?;
     Ok(
         heads.as_slice() == row.heads.as_bytes()
-            && reports.iter().all(|report| is_valid(&subject, report)
-                && step_count(report) <= row.most)
+            && are_valid(&subject, &reports)?
+            && reports.iter().all(|report| step_count(report) <= row.most)
             && is_read_back(alloc, &text, &reports)?,
     )
 }
