@@ -161,18 +161,18 @@ is_answered exits.Broken = true
 is_answered exits.Partly = false
 
 untold_after : (exit : Exit) → is_answered exit ≡ false → is_told exit ≡ false
-untold_after exits.Accept no = absurd (false≢true (sym no))
-untold_after exits.Reports no = absurd (false≢true (sym no))
-untold_after exits.Bad no = absurd (false≢true (sym no))
-untold_after exits.Scope no = absurd (false≢true (sym no))
-untold_after exits.Limit no = absurd (false≢true (sym no))
-untold_after exits.Usage no = refl
-untold_after exits.ReadFault no = refl
-untold_after exits.WriteFault no = refl
-untold_after exits.WatcherFault no = refl
-untold_after exits.Memory no = refl
-untold_after exits.Broken no = absurd (false≢true (sym no))
-untold_after exits.Partly no = refl
+untold_after exits.Accept off = absurd (false≢true (sym off))
+untold_after exits.Reports off = absurd (false≢true (sym off))
+untold_after exits.Bad off = absurd (false≢true (sym off))
+untold_after exits.Scope off = absurd (false≢true (sym off))
+untold_after exits.Limit off = absurd (false≢true (sym off))
+untold_after exits.Usage off = refl
+untold_after exits.ReadFault off = refl
+untold_after exits.WriteFault off = refl
+untold_after exits.WatcherFault off = refl
+untold_after exits.Memory off = refl
+untold_after exits.Broken off = absurd (false≢true (sym off))
+untold_after exits.Partly off = refl
 
 -- ---- from the answer to words and files to why it comes
 module _ (words : List (List ℕ)) (content : List ℕ → Option (List ℕ)) (before now : ℕ) where
@@ -194,15 +194,15 @@ module _ (words : List (List ℕ)) (content : List ℕ → Option (List ℕ)) (b
   none_chosen _ _ _ starved e = absurd (let no : ⊥ = cc in no)
 
   answered : (text : List ℕ) (exit : Exit) (all : List Event) (other : Exit) → is_answered other ≡ false → IsAnswer words content before now text exit all → exit ≡ other → is_answered exit ≡ true
-  answered _ _ _ other no (usage none) e = refl
-  answered _ _ _ other no (many_files form is many) e = refl
-  answered _ _ _ other no (unread form i file bytes is few there taken rose) e = refl
-  answered _ _ _ other no (too_long form i file bytes is few there taken long) e = refl
-  answered _ _ _ other no (read form bytes r text exit found is few taken c o h) e = absurd (untold other (untold_after other no) form bytes r text exit c o e)
-  answered _ _ _ other no starved e = refl
+  answered _ _ _ other off (usage none) e = refl
+  answered _ _ _ other off (many_files form is many) e = refl
+  answered _ _ _ other off (unread form i file bytes is few there taken rose) e = refl
+  answered _ _ _ other off (too_long form i file bytes is few there taken long) e = refl
+  answered _ _ _ other off (read form bytes r text exit found is few taken c o h) e = absurd (untold other (untold_after other off) form bytes r text exit c o e)
+  answered _ _ _ other off starved e = refl
 
   pub not_after : (other : Exit) → is_answered other ≡ false → (text : List ℕ) (exit : Exit) (all : List Event) → IsAnswer words content before now text exit all → exit ≡ other → ⊥
-  not_after other no text exit all is e = false≢true (sym no ∙ ap is_answered (sym e) ∙ answered text exit all other no is e)
+  not_after other off text exit all is e = false≢true (sym off ∙ ap is_answered (sym e) ∙ answered text exit all other off is e)
 
 abbrev pub AreTakenOf : (List ℕ → Option (List ℕ)) → Form → List (List ℕ) → Type 0
 AreTakenOf content form bytes = AreTakenTo content (files_of form) (length (files_of form)) bytes

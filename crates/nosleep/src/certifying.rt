@@ -83,7 +83,8 @@ pub fn certify(
     written_certificates();
     accepted_certificates();
     alike_reports();
-    let Solved { parts, mut reports } = solve_all(alloc, subject)?;
+    let solved = solve_all(alloc, subject)?;
+    let mut reports = solved.reports;
     order_reports(subject, &mut reports);
     let found = violations_of(alloc, &reports)?;
     if !found.is_empty() {
@@ -93,7 +94,7 @@ pub fn certify(
     let cert = Certificate {
         list: Sha1::digest(list),
         dex: digests_of(alloc, files)?,
-        locks: parts,
+        locks: solved.parts,
     };
     let answer = write(alloc, &cert)?;
     Ok(Judged { answer, found })

@@ -31,15 +31,15 @@ pub fn nosleep<F: Shelf, K: Sink>(
     ensures answer { (exit : Exit) × (text : List ℕ) × (all : List Event)
         × IsAnswer (map string_bytes words.now) (F.content shelf.old) (F.faults shelf.old) (F.faults shelf.new) text exit all
         × IsEnd exit text (kinds_of (map string_bytes words.now)) all result (K.taken out.old) (K.taken out.new) (K.faults out.old) (K.faults out.new)
-        (map (λ w. seen (sort w) (events w) (faults w)) watchers.old.items)
-        (map (λ w. seen (sort w) (events w) (faults w)) watchers.new.items) }
+        (map (λ w. seen (sort w) (events w) ((⟦<dyn Watcher as Watcher>⟧ w.vtable).faults w.value)) watchers.old.items)
+        (map (λ w. seen (sort w) (events w) ((⟦<dyn Watcher as Watcher>⟧ w.vtable).faults w.value)) watchers.new.items) }
 
     // No fault is answered that the outside did not have.
     ensures read { result ≡ Exit.ReadFault → Rose (F.faults shelf.old) (F.faults shelf.new) }
     ensures write { result ≡ Exit.WriteFault → Rose (K.faults out.old) (K.faults out.new) }
     ensures watch { result ≡ Exit.WatcherFault → (i : ℕ) × (old : _) × (new : _)
         × (slice_get watchers.old.items i ≡ Some old) × (slice_get watchers.new.items i ≡ Some new)
-        × (is_chosen (kinds_of (map string_bytes words.now)) (sort old) ≡ true) × Rose (faults old) (faults new) }
+        × (is_chosen (kinds_of (map string_bytes words.now)) (sort old) ≡ true) × Rose ((⟦<dyn Watcher as Watcher>⟧ old.vtable).faults old.value) ((⟦<dyn Watcher as Watcher>⟧ new.vtable).faults new.value) }
 
     // After want of memory nothing was written.
     ensures memory { result ≡ Exit.Memory → out.new ≡ out.old }
@@ -58,7 +58,7 @@ pub fn nosleep<F: Shelf, K: Sink>(
         → AreTold (F.content shelf.old) form all → AreJudged form all x
         → ¬ Rose (F.faults shelf.old) (F.faults shelf.new) → ¬ Rose (K.faults out.old) (K.faults out.new)
         → ((i : ℕ) (old new : _) → slice_get watchers.old.items i ≡ Some old → slice_get watchers.new.items i ≡ Some new
-        → is_chosen (kinds_of (map string_bytes words.now)) (sort old) ≡ true → ¬ Rose (faults old) (faults new))
+        → is_chosen (kinds_of (map string_bytes words.now)) (sort old) ≡ true → ¬ Rose ((⟦<dyn Watcher as Watcher>⟧ old.vtable).faults old.value) ((⟦<dyn Watcher as Watcher>⟧ new.vtable).faults new.value))
         → Judges form result ⊎ IsStarved result }
 
     // What the shelf tells stays, and so does each watcher that was not chosen.

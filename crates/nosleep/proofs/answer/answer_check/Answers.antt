@@ -3,11 +3,11 @@ use Rattle.nosleep.specs.Words.{Check}
 use Rattle.nosleep.proofs.Outcomes.{checked_form, no_report, refused_form}
 use Rattle.nosleep.proofs.answer.answer_check.Goals as goal
 
-pub returns-in-Subject : goal.returns-in-Subject
-returns-in-Subject c = λ one two dex.
+pub returns-in_ok-answer-in-Subject : goal.returns-in_ok-answer-in-Subject
+returns-in_ok-answer-in-Subject c = λ one two dex.
     let files = map (λ v. v.items) c.args.files.now in
-    checked_form (Check one two dex) (c.args.cert.now ∷ c.args.list.now ∷ files) c.with_none.result c.in_ok-answer.answer c.with_none.ensures.answer c.with_none.ensures.none
-    _ (rw c.in-Subject.is at c.in_ok-subject.ensures) c.in_ok-answer.ensures (λ y alike. no_report c.args.cert.now c.args.list.now files y _ _ (c.in_ok-answer.ensures y alike))
+    checked_form (Check one two dex) (c.args.cert.now ∷ c.args.list.now ∷ files) c.with_none.result c.in_ok-answer-in-Subject.answer c.with_none.ensures.answer c.with_none.ensures.none
+    _ (rw c.in-Subject.is at c.in_ok-subject.ensures) c.in_ok-answer-in-Subject.ensures (λ y alike. no_report c.args.cert.now c.args.list.now files y _ _ (c.in_ok-answer-in-Subject.ensures y alike))
 
 pub returns-in-Refused : goal.returns-in-Refused
 returns-in-Refused c = λ one two dex.

@@ -32,7 +32,7 @@ returns-in-Fault-clause-answer g c = λ words asked.
     let few : length (dex_names (form_by c.args.asked)) ≤ limit_of Files = omega (arith, c.dex_count.ensures, c.limit.ensures, c.if-dex_count-limit.false) in
     let stops = rw c.in-Fault.is at c.in_ok-i.ensures.taken in
     let file = rw (sym c.deref.ensures.value) at c.index.ensures in
-    let wrote = rw (ap (λ (f : FileName). f.name) c.behind-names.view_is) at c.in_ok-text.ensures in
+    let wrote = rw (ap (λ (f : FileName). f.name) c.behind-names.view_is) at c.in_ok-text-in-Fault.ensures in
     stopped_failed words (g.F.Shelf.content c.args.shelf.now) (g.F.Shelf.faults c.args.shelf.now) (g.F.Shelf.faults c.take_files.new.shelf) (form_by c.args.asked) asked
     c.with_none-in-Fault.result _ c.with_none-in-Fault.ensures.answer c.with_none-in-Fault.ensures.none few c.deref.result.now (c.deref.ensures.value ∙ c.in_ok-names.ensures) c.in-Fault.i c.index.result.now _ stops file wrote refl
 
