@@ -1,6 +1,6 @@
 -- The text of reports is put together as the reader has it.
-use Rattle.std.proofs.Common.{◌≡◌, ℕ, zero, suc, ◌+◌, List, [], ◌∷◌, ◌++◌, length, map, Option, Some, None, refl, sym, ap, ◌∙◌, subst, add-one}
-use Rattle.std.specs.Prelude.{codes, decimal, option_map, slice_get}
+use Rattle.std.proofs.Common.{◌≡◌, ℕ, zero, suc, List, [], ◌∷◌, ◌++◌, length, map, Option, Some, None, refl, sym, ap, ◌∙◌, subst, add-one}
+use Rattle.std.specs.Prelude.{option_map, slice_get}
 use Rattle.std.specs.List.{AllByRecursion}
 use Rattle.std.proofs.lemmas.List.{length-map}
 use Rattle.std.proofs.lemmas.Option.{slice_get-map}
@@ -18,16 +18,13 @@ use Rattle.report_text.specs.Reports.{part_at, reports_before, reports_text}
 use Rattle.read_back.specs.Fitting.{IsReadable}
 use Rattle.read_back.proofs.Feeds.{violation_feeds}
 
-regroup : (a b c d e f end : List ℕ) → (a ++ (b ++ (c ++ (d ++ (e ++ f))))) ++ end ≡ a ++ b ++ c ++ d ++ e ++ f ++ end
-regroup a b c d e f end = simp append_assoc
-
 module _ (app : AppParts) (list : List ComponentParts) where
   abbrev written_of : Report → Written
   written_of r = record { head_rest = violation_text app list (violation_of r); written = r }
 
   head_same : (i n : ℕ) (r : Report) → head_text app list i n (violation_of r) ≡ read.head_text i n (violation_text app list (violation_of r))
   unfolding head_text read.head_text
-  head_same i n r = regroup (codes "report ") (decimal i) (codes " of ") (decimal n) (codes ": ") (violation_text app list (violation_of r)) (codes "\n")
+  head_same i n r = refl
 
   part_same : (n k : ℕ) (o : Option Report) → part_at app list (suc k) n o ≡ line_at (written_at n) k (option_map written_of o)
   part_same n k None = refl

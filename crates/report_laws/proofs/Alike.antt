@@ -1,6 +1,6 @@
 -- Subjects that are alike have the same valid reports.
-use Rattle.std.proofs.Common.{◌≡◌, ℕ, ◌+◌, ◌<◌, List, [], ◌∷◌, length, Option, Some, None, refl, sym, ap, ◌∙◌, subst}
-use Rattle.std.specs.Prelude.{slice_get, take}
+use Rattle.std.proofs.Common.{◌≡◌, ℕ, List, [], ◌∷◌, Option, Some, None, sym, ap, ◌∙◌, subst}
+use Rattle.std.specs.Prelude.{take}
 use Rattle.app_model.specs.declared.component.Edge.{Edge}
 use Rattle.app_model.specs.Facts.{Fact, At}
 use Rattle.app_model.specs.Subject.{SubjectParts}
@@ -16,9 +16,9 @@ use Rattle.report_path.specs.declared.report.By.TheVariants.{Start, Outside, Own
 use Rattle.report_path.specs.declared.report.Report.{Report}
 use Rattle.report_path.specs.declared.report.Step.{Step}
 use Rattle.report_path.specs.declared.report.ViewStep.{ViewStep}
-use Rattle.report_path.specs.Paths.{Begins, Entry, Follows, GoesOn, IsBody, IsNext, IsPath, LeadsTo}
-use Rattle.report_path.specs.Reports.{IsExit, IsLast, IsValidReport}
-use Rattle.report_path.specs.Views.{Case, IsAfter, IsBeside, IsBy, IsOther, IsOwn, Moves, fact_of}
+use Rattle.report_path.specs.Paths.{Begins, Entry, Follows, IsNext, IsPath, LeadsTo}
+use Rattle.report_path.specs.Reports.{IsLast, IsValidReport}
+use Rattle.report_path.specs.Views.{Case, IsBy, IsOther, IsOwn, Moves, fact_of}
 
 module _ (x y : SubjectParts) (left : IsInScope x) (right : IsInScope (beside x y)) (l : ℕ) where
   abbrev z : SubjectParts
