@@ -1,6 +1,6 @@
 -- One more body.
 use Rattle.std.proofs.Common.{suc, zero, ◌≡◌, ℕ, ◌<◌, Bool, true, false, List, [], ◌∷◌, ◌++◌, length, Option, Some, None, refl, sym, ap, ◌∙◌, arith, subst, inl, inr, ⊎_elim}
-use Rattle.std.specs.Prelude.{slice_get, slice_index, take, option_map, ◌⊎◌}
+use Rattle.std.specs.Prelude.{slice_get, slice_index, option_map, ◌⊎◌}
 use Rattle.std.specs.Option.{option_and_then}
 use Rattle.std.proofs.lemmas.Bool.{cases_lt}
 use Rattle.std.proofs.lemmas.List.{take-append-le, length-append}

@@ -1,6 +1,6 @@
 -- Marks, from the last line down, and from the last view down.
 use Rattle.std.proofs.Common.{suc, zero, ◌≡◌, ℕ, ◌<◌, ◌≤◌, Bool, true, List, [], ◌∷◌, length, set, Some, refl, ap, ◌∙◌, arith, subst, inl, inr, ⊎_elim, length-set}
-use Rattle.std.specs.Prelude.{slice_get, take, ◌⊎◌}
+use Rattle.std.specs.Prelude.{slice_get, ◌⊎◌}
 use Rattle.std.proofs.lemmas.Bool.{cases_eq}
 use Rattle.std.proofs.lemmas.Option.{slice_get_within}
 use Rattle.report_path.specs.declared.report.ViewStep.{ViewStep}

@@ -1,5 +1,5 @@
 -- One more view.
-use Rattle.std.proofs.Common.{◌≡◌, ℕ, ◌<◌, Bool, List, [], ◌∷◌, ◌++◌, length, Option, Some, None, refl, sym, ap, ◌∙◌, arith, subst, inl, inr, ⊎_elim}
+use Rattle.std.proofs.Common.{◌≡◌, ℕ, Bool, List, [], ◌∷◌, ◌++◌, length, Option, Some, None, refl, sym, ◌∙◌, arith, subst, inl, inr, ⊎_elim}
 use Rattle.std.specs.Prelude.{slice_get, slice_index, take}
 use Rattle.std.proofs.lemmas.Bool.{cases_lt}
 use Rattle.std.proofs.lemmas.List.{take-append-le, length-append}
@@ -8,7 +8,6 @@ use Rattle.app_model.specs.Components.{edge_at}
 use Rattle.app_model.specs.declared.component.Edge.{Edge}
 use Rattle.app_model.specs.Facts.{Fact}
 use Rattle.app_model.specs.Subject.{SubjectParts}
-use Rattle.flow_model.specs.Rules.{Carries}
 use Rattle.report_path.specs.declared.report.BodyPath.{BodyPath}
 use Rattle.report_path.specs.declared.report.By.{By}
 use Rattle.report_path.specs.declared.report.By.TheVariants.{Start, Outside, Own, Other}
@@ -16,7 +15,7 @@ use Rattle.report_path.specs.declared.report.ViewStep.{ViewStep}
 use Rattle.report_path.specs.Lookups.{Has}
 use Rattle.report_path.specs.Paths.{cited_in}
 use Rattle.report_path.specs.Reports.{RightView}
-use Rattle.report_path.specs.Views.{Case, IsAfter, IsBeside, IsBy, IsOther, IsOwn, IsView, Moves}
+use Rattle.report_path.specs.Views.{Case, IsBy, IsOwn, IsView, Moves}
 use Rattle.report_path.proofs.Lists.{take_get}
 use Rattle.fact_log.specs.declared.log.Line.{Line}
 use Rattle.fact_log.specs.Logs.{case_of_lines, end_in}

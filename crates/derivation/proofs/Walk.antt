@@ -1,5 +1,5 @@
 -- The way from an end back to the entry of its method.
-use Rattle.std.proofs.Common.{suc, zero, ◌≡◌, ℕ, ◌+◌, ◌<◌, ◌≤◌, Bool, true, false, List, [], ◌∷◌, ◌++◌, length, Option, Some, None, refl, sym, ap, ◌∙◌, arith, subst, inl, inr, ⊎_elim}
+use Rattle.std.proofs.Common.{suc, zero, ◌≡◌, ℕ, ◌+◌, ◌<◌, ◌≤◌, Bool, false, List, [], ◌∷◌, ◌++◌, length, Option, Some, None, refl, sym, ap, ◌∙◌, arith, subst, inl, inr, ⊎_elim}
 use Rattle.std.specs.Prelude.{slice_get, take, reverse}
 use Rattle.std.proofs.lemmas.Bool.{cases_lt}
 use Rattle.std.proofs.lemmas.List.{reverse-append}
@@ -8,7 +8,7 @@ use Rattle.app_model.specs.Parts.{AppParts}
 use Rattle.app_model.specs.Subject.{SubjectParts, IsSubject}
 use Rattle.app_model.specs.Words.{code_len, pc_at, places_of}
 use Rattle.report_path.specs.declared.goal.Goal.{Goal}
-use Rattle.report_path.specs.declared.goal.Goal.TheVariants.{Before, Returned, Thrown}
+use Rattle.report_path.specs.declared.goal.Goal.TheVariants.{Before}
 use Rattle.report_path.specs.declared.report.BodyPath.{BodyPath}
 use Rattle.report_path.specs.declared.report.Step.{Step}
 use Rattle.report_path.specs.Lookups.{Has}

@@ -12,7 +12,6 @@ use Rattle.report_path.specs.Reports.{IsValidReport, violation_of}
 use Rattle.fact_log.specs.declared.log.Line.{Line}
 use Rattle.fact_log.specs.Logs.{HasFacts, IsLog}
 use Rattle.view_solver.specs.Judged.{AreViolationsBy}
-use Rattle.derivation.specs.Cuts.{IsReportOf}
 
 -- a violation whose facts are in a log
 pub record IsLoggedViolation (t : SubjectParts) (lines : List Line) (views : List ViewStep) (bad : Violation) : Type 0 where

@@ -1,5 +1,5 @@
 -- A report cut out of a log: the bodies and views of the lines and views that are marked.
-use Rattle.std.specs.Prelude.{ℕ, ◌≡◌, ◌<◌, ◌≤◌, ◌+◌, ◌⊎◌, Bool, true, false, List, [], ◌∷◌, length, Option, Some, None, slice_get, slice_index}
+use Rattle.std.specs.Prelude.{ℕ, ◌≡◌, ◌<◌, ◌≤◌, ◌+◌, ◌⊎◌, Bool, true, false, List, ◌∷◌, length, Option, Some, None, slice_get, slice_index}
 use Rattle.app_model.specs.Facts.{Fact}
 use Rattle.app_model.specs.Parts.{AppParts}
 use Rattle.app_model.specs.Subject.{SubjectParts, IsSubject}

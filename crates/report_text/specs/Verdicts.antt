@@ -1,5 +1,5 @@
 -- The answers to a certificate.
-use Rattle.std.specs.Prelude.{ℕ, List, [], ◌∷◌, ◌++◌, codes, decimal}
+use Rattle.std.specs.Prelude.{ℕ, List, [], ◌∷◌, ◌++◌, codes}
 use Rattle.app_model.specs.Components.{ComponentParts}
 use Rattle.app_model.specs.Parts.{AppParts}
 use Rattle.cert_check.specs.declared.verdict.Checked.{Checked}
