@@ -12,7 +12,8 @@ set -eu
 
 make_workspace analysis_times "sample_apps scope_check tag_flow class_graph app_model dalvik ns_base" \
     ns_base dex_bytes dex_tables dex_code dalvik dalvik_decode method_graph dex_file app_model act_model class_graph call_reach \
-    call_targets component_list flow_model tag_rows tag_flow scope_facts scope_check solution solver view_solver app_rows app_link sample_apps
+    call_targets component_list flow_model tag_rows tag_flow scope_facts scope_check solution solver view_solver app_rows app_link cert_line certificate cert_facts cert_check \
+    report_path path_text path_reader log_queue fact_log derivation report_text sample_apps
 
 export PYTHONDONTWRITEBYTECODE=1
 pairs=

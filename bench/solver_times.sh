@@ -14,7 +14,8 @@ set -eu
 make_workspace solver_times \
     "sample_apps view_solver solver solution flow_model act_model scope_check tag_flow component_list class_graph app_model dalvik ns_base" \
     ns_base dex_bytes dex_tables dex_code dalvik dalvik_decode method_graph dex_file app_model act_model solution class_graph call_reach \
-    call_targets component_list flow_model solver view_solver tag_rows tag_flow scope_facts scope_check app_rows app_link sample_apps
+    call_targets component_list flow_model solver view_solver tag_rows tag_flow scope_facts scope_check app_rows app_link cert_line certificate cert_facts cert_check report_path path_text path_reader \
+    log_queue fact_log derivation report_text sample_apps
 
 export PYTHONDONTWRITEBYTECODE=1
 if [ $# -eq 0 ]; then
